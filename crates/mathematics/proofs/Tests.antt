@@ -1,0 +1,63 @@
+-- Laws of tests: what a passed test says, and a rule that one computed test proves at each number below a bound. Assumes nothing.
+use mathlib.Core.Path.{_≡_, sym, subst}
+use mathlib.Core.Bool.{Bool, true, false, not, cond, _&&_}
+use mathlib.Core.List.{List, [], _∷_, _++_}
+use Prim.Native.Nat.{ℕ, zero, suc, _+_, _-_, _≤_, _<_}
+use native.Mathlib.Nat.{not-suc-le-zero}
+use native.Mathlib.Decide.{decLt}
+use native.Mathlib.Omega.{arith}
+use lib.Dec.{T}
+use Rattle.mathematics.specs.Tests.{allBelow, all}
+
+pub both : (a b : Bool) → T (a && b) → T a × T b
+both true b t = (tt, t)
+both false b t = absurd t
+
+pub both-of : (a b : Bool) → T a → T b → T (a && b)
+both-of true b s t = t
+both-of false b s t = absurd s
+
+pub then : (c : Bool) (x y : Bool) → T c → T (cond c x y) → T x
+then true x y t u = u
+then false x y t u = absurd t
+
+pub cond-elim : {A : Type 0} (c : Bool) (x y : A) (P : A → Type 0) → (T c → P x) → (T (not c) → P y) → P (cond c x y)
+cond-elim true x y P f g = f tt
+cond-elim false x y P f g = g tt
+
+-- ---- 0 to n - 1
+
+pub below-at : (n : ℕ) (test : ℕ → Bool) → T (allBelow n test) → (k : ℕ) → k < n → T (test k)
+unfolding allBelow
+below-at zero test t k h = absurd (not-suc-le-zero h)
+below-at (suc n) test t k h = cases (below-at n test (both (allBelow n test) (test n) t .0) k) (decLt k n)
+  where
+    cases : (k < n → T (test k)) → Dec (k < n) → T (test k)
+    cases before (yes l) = before l
+    cases before (no l) = let e : n ≡ k = omega arith in subst (λ (m : ℕ). T (test m)) e (both (allBelow n test) (test n) t .1)
+
+-- from a to a + n - 1
+pub between-at : (a n : ℕ) (test : ℕ → Bool) → T (allBelow n (λ m. test (a + m))) → (k : ℕ) → a ≤ k → k < a + n → T (test k)
+between-at a n test t k l h = subst (λ (m : ℕ). T (test m)) (omega arith) (below-at n (λ m. test (a + m)) t (k - a) (omega arith))
+
+-- ---- lists
+
+module _ {A : Type 0} (test : A → Bool) where
+  pub all-append : (xs ys : List A) → T (all test xs) → T (all test ys) → T (all test (xs ++ ys))
+  unfolding all
+  all-append [] ys s t = t
+  all-append (x ∷ xs) ys s t =
+      let (h, r) = both (test x) (all test xs) s in
+      both-of (test x) (all test (xs ++ ys)) h (all-append xs ys r t)
+
+  pub all-front : (xs ys : List A) → T (all test (xs ++ ys)) → T (all test xs)
+  unfolding all
+  all-front [] ys t = tt
+  all-front (x ∷ xs) ys t =
+      let (h, r) = both (test x) (all test (xs ++ ys)) t in
+      both-of (test x) (all test xs) h (all-front xs ys r)
+
+  pub all-back : (xs ys : List A) → T (all test (xs ++ ys)) → T (all test ys)
+  unfolding all
+  all-back [] ys t = t
+  all-back (x ∷ xs) ys t = all-back xs ys (both (test x) (all test (xs ++ ys)) t .1)
