@@ -3,7 +3,7 @@ use mathlib.Core.Path.{_≡_, refl}
 use Prim.Native.Nat.{ℕ, _+_, _*_, _≤_}
 use native.Mathlib.Nat.{le-trans, le-refl}
 use native.Mathlib.Omega.{arith}
-use lib.Dec.{leb→le}
+use lib.Dec.{leb→le, le→leb}
 use lib.IntN.{ℤ, pos, natAbs, _+ℤ_, _-ℤ_, _*ℤ_}
 use lib.Signed.{_≤ℤ_}
 use Rattle.mathematics.proofs.Integers.{ints, all₁, all₂, all₃, all₄, _⊖_}
@@ -27,6 +27,9 @@ abs-zero e = all₁ _ (λ p n. simp ints (omega arith))
 
 above-abs : (e : ℕ) (x y : ℤ) → natAbs (x -ℤ y) ≤ e → x ≤ℤ (y +ℤ pos e)
 above-abs e = all₂ _ (λ p n q m. simp ints (omega arith))
+
+between-abs : (e : ℕ) (x y : ℤ) → x ≤ℤ (y +ℤ pos e) → y ≤ℤ (x +ℤ pos e) → natAbs (x -ℤ y) ≤ e
+between-abs e = all₂ _ (λ p n q m. simp ints (omega arith))
 
 same-abs : (x y : ℤ) → natAbs (x -ℤ y) ≤ 0 → x ≡ y
 same-abs = all₂ _ (λ p n q m. simp ints (omega arith))
@@ -74,3 +77,6 @@ abs-near {e} {x} n = abs-zero e x (n .apart)
 pub near-pos : {a b e : ℕ} → Near e (pos a) (pos b) → (a ≤ b + e) × (b ≤ a + e)
 near-pos {a} {b} {e} n =
     (leb→le a (b + e) (above-abs e (pos a) (pos b) (n .apart) .le), leb→le b (a + e) (above-abs e (pos b) (pos a) (near-sym n .apart) .le))
+
+pub pos-near : {a b e : ℕ} → a ≤ b + e → b ≤ a + e → Near e (pos a) (pos b)
+pos-near {a} {b} {e} h k = record { apart = between-abs e (pos a) (pos b) (record { le = le→leb a (b + e) h }) (record { le = le→leb b (a + e) k }) }

@@ -8,7 +8,7 @@ use mathlib.Core.Bool.{Bool, _&&_}
 use lib.Dec.{T, ltb, ltb→lt}
 use lib.IntN.{ℤ, pos, natAbs, _+ℤ_, _-ℤ_, _*ℤ_}
 use lib.Signed.{_≤ℤ_, _<ℤ_, leZ, ltZ}
-use Rattle.mathematics.proofs.Integers.{ints, all₂, all₃, all₄, _⊖_}
+use Rattle.mathematics.proofs.Integers.{ints, all₁, all₂, all₃, all₄, _⊖_}
 use Rattle.mathematics.proofs.IntegerLaws.{≤ℤ-antisym}
 use Rattle.mathematics.proofs.Distance.{Near}
 use Rattle.mathematics.proofs.Tests.{both}
@@ -48,6 +48,16 @@ pub round-shift : (S x : ℤ) (D : ℕ) → 0 < D → roundDiv (S +ℤ x *ℤ po
 round-shift S x D h =
     let b : Between S D (roundDiv S D) = round-between S D h in
     round-is h (record { low = shift-low D S x (roundDiv S D) (b .low); high = shift-high D S x (roundDiv S D) (b .high) })
+
+whole-low : (D : ℕ) (x : ℤ) → (pos 2 *ℤ x *ℤ pos D) ≤ℤ (pos 2 *ℤ (x *ℤ pos D) +ℤ pos D)
+whole-low D = all₁ _ (λ p n. simp ints (omega arith))
+
+whole-high : (D : ℕ) → 0 < D → (x : ℤ) → (pos 2 *ℤ (x *ℤ pos D) +ℤ pos D) <ℤ (pos 2 *ℤ (x +ℤ pos 1) *ℤ pos D)
+whole-high D h = all₁ _ (λ p n. simp ints (omega arith))
+
+-- a sum that D divides
+pub round-whole : (x : ℤ) (D : ℕ) → 0 < D → roundDiv (x *ℤ pos D) D ≡ x
+round-whole x D h = round-is h (record { low = whole-low D x; high = whole-high D h x })
 
 -- ---- distance
 

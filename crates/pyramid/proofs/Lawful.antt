@@ -1,0 +1,60 @@
+-- What lawful settings are, as facts: from the tests that the refusals make, and back. Assumes nothing.
+use mathlib.Core.Path.{_≡_, sym, ap, _∙_}
+use mathlib.Core.Bool.{Bool, true, false, cond, _&&_}
+use Prim.Native.Nat.{ℕ, suc, _-_, _%_, _^_, _≤_, _<_}
+use native.Mathlib.Omega.{arith}
+use lib.Dec.{T, leb, eqb, leb→le, eqb→eq, le→leb}
+use Rattle.mathematics.proofs.Tests.{both, then, below-at}
+use Rattle.pyramid.specs.declared.Settings.{Settings}
+use Rattle.pyramid.specs.Settings.{sideOk, depthOk, divides, kernelOk, bin, slotOk, sizeOk, binsOk}
+
+-- one side of a picture that a depth suits
+pub record Side (side depth : ℕ) : Type 0 where
+  pub least : 2 ≤ side
+  pub most : side ≤ 129
+  pub whole : (side - 1) % 2 ^ depth ≡ 0
+
+pub record Kernel (k : ℕ) : Type 0 where
+  pub least : 3 ≤ k
+  pub most : k ≤ 6
+
+pub record Bin (n : ℕ) : Type 0 where
+  pub least : 1 ≤ n
+  pub most : n ≤ 255
+
+pub record Lawful (s : Settings) : Type 0 where
+  pub deep : s .depth ≤ 6
+  pub across : Side (s .columns) (s .depth)
+  pub along : Side (s .rows) (s .depth)
+  pub kernel : Kernel (s .kernel)
+  pub binned : (l : ℕ) → l ≤ s .depth → Bin (bin s l)
+
+side-law : (side depth : ℕ) → T (sideOk side) → T (divides depth side) → Side side depth
+unfolding sideOk divides
+side-law side depth t d =
+    let (least, most) = both (leb 2 side) (leb side 129) t in
+    record { least = leb→le 2 side least; most = leb→le side 129 most; whole = eqb→eq ((side - 1) % 2 ^ depth) 0 d }
+
+bin-law : (depth l n : ℕ) → l ≤ depth → T (slotOk depth l n) → Bin n
+unfolding slotOk
+bin-law depth l n h t =
+    let (least, most) = both (leb 1 n) (leb n 255) (then (leb l depth) (leb 1 n && leb n 255) (eqb n 0) (le→leb l depth h) t) in
+    record { least = leb→le 1 n least; most = leb→le n 255 most }
+
+module _ (s : Settings) where
+  pub lawful : T (sizeOk s) → T (kernelOk (s .kernel)) → T (binsOk s) → Lawful s
+  unfolding sizeOk kernelOk binsOk depthOk
+  lawful size kernel bins =
+      let (sides, rest) = both (sideOk (s .columns) && sideOk (s .rows)) _ size in
+      let (across, along) = both (sideOk (s .columns)) (sideOk (s .rows)) sides in
+      let (deep, whole) = both (depthOk (s .depth)) (divides (s .depth) (s .columns) && divides (s .depth) (s .rows)) rest in
+      let (c, r) = both (divides (s .depth) (s .columns)) (divides (s .depth) (s .rows)) whole in
+      let (k₃, k₆) = both (leb 3 (s .kernel)) (leb (s .kernel) 6) kernel in
+      let d : s .depth ≤ 6 = leb→le (s .depth) 6 deep in
+      record {
+        deep = d;
+        across = side-law (s .columns) (s .depth) across c;
+        along = side-law (s .rows) (s .depth) along r;
+        kernel = record { least = leb→le 3 (s .kernel) k₃; most = leb→le (s .kernel) 6 k₆ };
+        binned = λ l h. bin-law (s .depth) l (bin s l) h (below-at 7 (λ l. slotOk (s .depth) l (bin s l)) bins l (omega arith));
+      }

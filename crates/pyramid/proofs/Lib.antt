@@ -1,0 +1,10 @@
+pub mod Lawful
+pub mod Sizes
+pub mod Weights
+pub mod Windows
+pub mod Edge
+pub mod Steps
+pub mod Within
+pub mod Refusals
+pub mod Buffers
+pub mod Ranges

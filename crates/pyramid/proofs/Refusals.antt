@@ -1,0 +1,86 @@
+-- What an accepted call says of its arguments, and what is left in a buffer. Assumes nothing.
+use mathlib.Core.Path.{_≡_, refl, sym, ap, _∙_}
+use mathlib.Core.Bool.{Bool, true, false}
+use mathlib.Core.List.{List, [], _∷_}
+use Prim.Native.Nat.{ℕ, zero, suc, _*_, _≤_, _<_}
+use native.Mathlib.Omega.{arith}
+use lib.Dec.{T, leb, eqb, leb→le, eqb→eq}
+use lib.IntN.{ℤ}
+use lib.ListN.{length}
+use Rattle.pyramid.specs.declared.Settings.{Settings}
+use Rattle.pyramid.specs.Settings.{sizeOk, kernelOk, binsOk}
+use Rattle.pyramid.specs.Sizes.{total}
+use Rattle.pyramid.specs.Refusals.{unless, first, settingsRefusal, buffersRefusal, valuesOk, codingRefusal, rebuildingRefusal}
+use Rattle.pyramid.specs.Calls.{leaves}
+use Rattle.pyramid.proofs.Lawful.{Lawful, lawful}
+
+pub first-none : (x : ℕ) (later : List ℕ) → first (x ∷ later) ≡ 0 → (x ≡ 0) × (first later ≡ 0)
+unfolding first
+first-none zero later e = (refl, e)
+first-none (suc n) later e = absurd (omega arith)
+
+pub first-skip : (x : ℕ) (later : List ℕ) → x ≡ 0 → first (x ∷ later) ≡ first later
+unfolding first
+first-skip x later e = rw e
+
+unless-none : (holds : Bool) (number : ℕ) → unless holds (suc number) ≡ 0 → T holds
+unfolding unless
+unless-none true number e = tt
+unless-none false number e = absurd (omega arith)
+
+pub unless-holds : (holds : Bool) (number : ℕ) → T holds → unless holds number ≡ 0
+unfolding unless
+unless-holds true number t = refl
+unless-holds false number t = absurd t
+
+module _ (s : Settings) where
+  pub accepted-settings : settingsRefusal s ≡ 0 → Lawful s
+  unfolding settingsRefusal
+  accepted-settings e =
+      let (size, e₂) = first-none _ _ e in
+      let (kernel, e₃) = first-none _ _ e₂ in
+      lawful s (unless-none (sizeOk s) 0 size) (unless-none (kernelOk (s .kernel)) 1 kernel) (unless-none (binsOk s) 2 (first-none _ _ e₃ .0))
+
+  pub record Sized (picture levels work : ℕ) : Type 0 where
+    pub picture-is : picture ≡ s .rows * s .columns
+    pub levels-is : levels ≡ total s
+    pub work-least : total s ≤ work
+
+  accepted-buffers : (picture levels work : ℕ) → buffersRefusal s picture levels work ≡ 0 → Sized picture levels work
+  unfolding buffersRefusal
+  accepted-buffers picture levels work e =
+      let (five, e₆) = first-none _ _ e in
+      let (six, e₇) = first-none _ _ e₆ in
+      record {
+        picture-is = eqb→eq picture (s .rows * s .columns) (unless-none (eqb picture (s .rows * s .columns)) 4 five);
+        levels-is = eqb→eq levels (total s) (unless-none (eqb levels (total s)) 5 six);
+        work-least = leb→le (total s) work (unless-none (leb (total s) work) 6 (first-none _ _ e₇ .0));
+      }
+
+  pub record Accepted (picture : List ℕ) (levels work : List ℤ) : Type 0 where
+    pub law : Lawful s
+    pub sized : Sized (length picture) (length levels) (length work)
+
+  pub accepted-coding : (picture : List ℕ) (levels work : List ℤ) → codingRefusal s picture levels work ≡ 0 → Accepted picture levels work
+  unfolding codingRefusal
+  accepted-coding picture levels work e =
+      let (settings, e₅) = first-none _ _ e in
+      record { law = accepted-settings settings; sized = accepted-buffers (length picture) (length levels) (length work) (first-none _ _ e₅ .0) }
+
+  pub accepted-rebuilding : (levels : List ℤ) (picture : List ℕ) (work : List ℤ) → rebuildingRefusal s levels picture work ≡ 0
+      → Accepted picture levels work × T (valuesOk s levels)
+  unfolding rebuildingRefusal
+  accepted-rebuilding levels picture work e =
+      let (settings, e₅) = first-none _ _ e in
+      let (buffers, e₁₁) = first-none _ _ e₅ in (
+        record { law = accepted-settings settings; sized = accepted-buffers (length picture) (length levels) (length work) buffers },
+        unless-none (valuesOk s levels) 10 (first-none _ _ e₁₁ .0),
+      )
+
+pub leaves-new : {A : Type 0} (answer : ℕ) (new old : A) → answer ≡ 0 → leaves answer new old ≡ new
+unfolding leaves
+leaves-new answer new old e = rw e
+
+pub leaves-old : {A : Type 0} (number : ℕ) (new old : A) → leaves (suc number) new old ≡ old
+unfolding leaves
+leaves-old number new old = refl

@@ -1,0 +1,70 @@
+-- The rules of the table of weights, each by one test over the whole table: symmetry, sums, sums of sizes, and the same for the taps that
+-- EXPAND takes at even and at odd columns. Assumes nothing.
+use mathlib.Core.Path.{_≡_, sym, ap, fun-ext}
+use mathlib.Core.Bool.{Bool, false, cond}
+use Prim.Native.Nat.{ℕ, _+_, _-_, _%_, _≤_}
+use native.Mathlib.Nat.{mod-add-mod}
+use native.Mathlib.Omega.{arith}
+use lib.Dec.{T, leb, eqb, leb→le, eqb→eq}
+use lib.IntN.{ℤ, pos, negsuc, natAbs}
+use Rattle.mathematics.specs.Tests.{allBelow}
+use Rattle.mathematics.specs.Sums.{sum}
+use Rattle.mathematics.proofs.Tests.{below-at, between-at}
+use Rattle.mathematics.proofs.Sums.{total}
+use Rattle.pyramid.specs.Weights.{weights, fromCentre, weight}
+use Rattle.pyramid.specs.Steps.{evenWeight}
+use Rattle.pyramid.proofs.Lawful.{Kernel}
+
+-- a test of the four kernels holds at each lawful one
+at-kernel : (test : ℕ → Bool) → T (allBelow 4 (λ n. test (3 + n))) → {k : ℕ} → Kernel k → T (test k)
+at-kernel test t {k} h = between-at 3 4 test t k (h .least) (omega (arith, h .most))
+
+-- z is n
+is : ℤ → ℕ → Bool
+is (pos m) n = eqb m n
+is (negsuc m) n = false
+
+is-eq : (z : ℤ) (n : ℕ) → T (is z n) → z ≡ pos n
+unfolding is
+is-eq (pos m) n t = ap pos (eqb→eq m n t)
+is-eq (negsuc m) n t = absurd t
+
+-- the sizes of five weights together
+abbrev pub size : (ℕ → ℤ) → ℕ
+size a = total 5 (λ t. natAbs (a t))
+
+-- ---- all taps
+
+pub weight-symmetric : (k t : ℕ) → t ≤ 4 → weight k (4 - t) ≡ weight k t
+unfolding weight
+weight-symmetric k t h = let e : fromCentre (4 - t) ≡ fromCentre t = omega arith in rw e
+
+pub weight-sum : {k : ℕ} → Kernel k → sum 5 (weight k) ≡ pos 20
+weight-sum {k} h = is-eq (sum 5 (weight k)) 20 (at-kernel (λ k. is (sum 5 (weight k)) 20) (unfold allBelow is sum weight weights in tt) h)
+
+pub weight-size : {k : ℕ} → Kernel k → size (weight k) ≤ 24
+weight-size {k} h = leb→le (size (weight k)) 24 (at-kernel (λ k. leb (size (weight k)) 24) (unfold allBelow total weight weights in tt) h)
+
+-- ---- the taps of EXPAND
+
+-- they depend on the column's parity alone
+even-parity : (k i : ℕ) → evenWeight k i ≡ evenWeight k (i % 2)
+unfolding evenWeight
+even-parity k i = fun-ext (λ t. ap (λ (m : ℕ). cond (eqb m 0) (weight k t) (pos 0)) (sym (mod-add-mod i 2 t)))
+
+-- so that a test of the four kernels and both parities holds at each lawful kernel and each column
+at-column : (test : ℕ → (ℕ → ℤ) → Bool) → T (allBelow 4 (λ n. allBelow 2 (λ i. test (3 + n) (evenWeight (3 + n) i)))) → {k : ℕ} → Kernel k → (i : ℕ)
+    → T (test k (evenWeight k i))
+at-column test t {k} h i =
+    rw (even-parity k i) (below-at 2 (λ i. test k (evenWeight k i)) (at-kernel (λ k. allBelow 2 (λ i. test k (evenWeight k i))) t h) (i % 2) (omega arith))
+
+pub even-sum : {k : ℕ} → Kernel k → (i : ℕ) → sum 5 (evenWeight k i) ≡ pos 10
+even-sum {k} h i = is-eq (sum 5 (evenWeight k i)) 10 (at-column (λ k a. is (sum 5 a) 10) (unfold allBelow is sum evenWeight weight weights in tt) h i)
+
+-- 14 at most for kernel 6, 10 for the others: the square in hundredths is the bound's multiplier
+abbrev pub reach : ℕ → ℕ
+reach k = cond (eqb k 6) 14 10
+
+pub even-size : {k : ℕ} → Kernel k → (i : ℕ) → size (evenWeight k i) ≤ reach k
+even-size {k} h i =
+    leb→le (size (evenWeight k i)) (reach k) (at-column (λ k a. leb (size a) (reach k)) (unfold allBelow total evenWeight weight weights in tt) h i)

@@ -1,0 +1,49 @@
+-- Rebuilt values lie within each level's bound of the averages. Assumes nothing.
+use mathlib.Core.Path.{_≡_, subst}
+use Prim.Native.Nat.{ℕ, zero, suc, _+_, _-_, _*_, _/_, _≤_}
+use native.Mathlib.Omega.{arith}
+use lib.IntN.{ℤ, _+ℤ_, _-ℤ_, -ℤ-+ℤ-cancel}
+use Rattle.mathematics.proofs.Distance.{Near, near-more, near-add}
+use Rattle.quantizer.proofs.Bins.{bin-near}
+use Rattle.pyramid.specs.declared.Settings.{Settings}
+use Rattle.pyramid.specs.Settings.{bin}
+use Rattle.pyramid.specs.Sizes.{Level, last}
+use Rattle.pyramid.specs.Pyramid.{expanded, indexOf, average, difference, index}
+use Rattle.pyramid.specs.Rebuilding.{valueOf, rebuild}
+use Rattle.pyramid.specs.Bound.{magnified, tolerance, bound}
+use Rattle.pyramid.proofs.Lawful.{Bin, Lawful}
+use Rattle.pyramid.proofs.Sizes.{last-suc, last-least}
+use Rattle.pyramid.proofs.Steps.{NearLevel, near-expand}
+
+-- a value of a level lies within the level's tolerance of its index's value
+pub near-index : (s : Settings) (l : ℕ) (x : ℤ) → Bin (bin s l) → Near (tolerance s l) (valueOf s l (indexOf s l x)) x
+unfolding tolerance valueOf indexOf
+near-index s l x b = bin-near x (bin s l) (b .least)
+
+module _ (s : Settings) (law : Lawful s) where
+  -- at the nodes of level l
+  abbrev pub NearAt : ℕ → ℕ → Level → Level → Type 0
+  NearAt l e u v = NearLevel e (last (s .columns) l) (last (s .rows) l) u v
+
+  -- EXPAND of two levels that have a level below them
+  pub near-expanded : (l : ℕ) → suc l ≤ s .depth → (e : ℕ) (u v : Level) → NearAt (suc l) e u v → NearAt l (magnified (s .kernel) e) (expanded s l u) (expanded s l v)
+  near-expanded l hl e u v close i j hi hj =
+      near-expand (law .kernel) (last (s .columns) (suc l)) (last (s .rows) (suc l)) e u v close (last-least (law .across) (suc l) hl) (last-least (law .along) (suc l) hl)
+      i j (omega (arith, last-suc (s .columns) l)) (omega (arith, last-suc (s .rows) l))
+
+  module _ (p : Level) (m : ℕ → Level) (indices : (l : ℕ) → l ≤ s .depth → (i j : ℕ) → i ≤ last (s .columns) l → j ≤ last (s .rows) l → m l i j ≡ index s p l i j) where
+    near-values : (d l : ℕ) → l + d ≡ s .depth → NearAt l (tolerance s l) (λ i j. valueOf s l (m l i j)) (difference s p d l)
+    unfolding index
+    near-values d l e i j hi hj =
+        let above : s .depth - l ≡ d = omega arith in
+        rw (indices l (omega arith) i j hi hj, above) (near-index s l (difference s p d l i j) (law .binned l (omega arith)))
+
+    pub within : (d l : ℕ) → l + d ≡ s .depth → NearAt l (bound s d l) (rebuild s m d l) (average s p l)
+    unfolding bound rebuild difference
+    within zero l e i j hi hj = near-values zero l e i j hi hj
+    within (suc d) l e i j hi hj =
+        near-more (omega arith)
+        (subst (Near (tolerance s l + magnified (s .kernel) (bound s d (suc l))) (rebuild s m (suc d) l i j))
+        (-ℤ-+ℤ-cancel (average s p l i j) (expanded s l (average s p (suc l)) i j))
+        (near-add (near-values (suc d) l e i j hi hj)
+        (near-expanded l (omega arith) (bound s d (suc l)) (rebuild s m d (suc l)) (average s p (suc l)) (within d (suc l) (omega arith)) i j hi hj)))

@@ -1,0 +1,115 @@
+"""Settings of the pyramid, their refusals 1 to 3, level sizes, the deepest depth and the bound (document 01)."""
+
+from dataclasses import dataclass
+from fractions import Fraction
+from math import ceil
+
+# Document 01, "Settings".
+SMALLEST_SIDE = 2
+LARGEST_SIDE = 129
+LARGEST_DEPTH = 6
+KERNELS = (3, 4, 5, 6)
+BIN_SLOTS = 7
+LARGEST_BIN = 255
+
+# Document 01, "Bound": the multiplier in hundredths for each k.
+BOUND_HUNDREDTHS = {3: 100, 4: 100, 5: 100, 6: 196}
+
+# Document 01, "Who can cause which refusal". 0 is used here for an accepted call.
+ACCEPTED = 0
+BAD_SHAPE = 1
+BAD_KERNEL = 2
+BAD_BIN = 3
+BAD_READING = 4
+BAD_PICTURE_LENGTH = 5
+BAD_LEVEL_LENGTH = 6
+BAD_WORK_LENGTH = 7
+BAD_FILE_LENGTH = 8
+FILE_ENDS_EARLY = 9
+BAD_COUNT = 10
+BAD_INDEX = 11
+BYTES_FOLLOW = 12
+
+
+@dataclass(frozen=True)
+class Settings:
+    """The settings of document 01; slot l of the seven bins belongs to level l."""
+
+    columns: int
+    rows: int
+    depth: int
+    kernel: int
+    bins: tuple[int, ...]
+
+
+def is_size_lawful(columns: int, rows: int) -> bool:
+    """Say whether both sides are 2 to 129."""
+    return all(SMALLEST_SIDE <= side <= LARGEST_SIDE for side in (columns, rows))
+
+
+def is_depth_lawful(columns: int, rows: int, depth: int) -> bool:
+    """Say whether the depth is 0 to 6 and 2 to the depth divides both sides less 1."""
+    if not 0 <= depth <= LARGEST_DEPTH:
+        return False
+    return (columns - 1) % 2 ** depth == 0 and (rows - 1) % 2 ** depth == 0
+
+
+def shape_refusal(columns: int, rows: int, depth: int, kernel: int) -> int:
+    """Refusal 1, then 2, or 0."""
+    if not is_size_lawful(columns, rows) or not is_depth_lawful(columns, rows, depth):
+        return BAD_SHAPE
+    return ACCEPTED if kernel in KERNELS else BAD_KERNEL
+
+
+def is_slot_lawful(slot: int, bin_size: int, depth: int) -> bool:
+    """Slots 0 to N hold 1 to 255, slots above N hold 0."""
+    return 1 <= bin_size <= LARGEST_BIN if slot <= depth else bin_size == 0
+
+
+def settings_refusal(settings: Settings) -> int:
+    """Refusal 1, then 2, then 3, or 0."""
+    assert len(settings.bins) == BIN_SLOTS
+    refusal = shape_refusal(settings.columns, settings.rows, settings.depth, settings.kernel)
+    if refusal != ACCEPTED:
+        return refusal
+    lawful = all(is_slot_lawful(slot, size, settings.depth) for slot, size in enumerate(settings.bins))
+    return ACCEPTED if lawful else BAD_BIN
+
+
+def level_size(columns: int, rows: int, level: int) -> tuple[int, int]:
+    """Columns and rows of a level."""
+    return (columns - 1) // 2 ** level + 1, (rows - 1) // 2 ** level + 1
+
+
+def node_count(columns: int, rows: int, level: int) -> int:
+    """Number of nodes of one level."""
+    level_columns, level_rows = level_size(columns, rows, level)
+    return level_columns * level_rows
+
+
+def total_nodes(columns: int, rows: int, depth: int) -> int:
+    """T, the number of nodes of levels 0 to N together."""
+    return sum(node_count(columns, rows, level) for level in range(depth + 1))
+
+
+def deepest_depth(columns: int, rows: int) -> tuple[int, int]:
+    """Refusal (1 on size only, or 0) and the largest lawful depth (0 if refused)."""
+    if not is_size_lawful(columns, rows):
+        return BAD_SHAPE, 0
+    return ACCEPTED, max(depth for depth in range(LARGEST_DEPTH + 1) if is_depth_lawful(columns, rows, depth))
+
+
+def bounds(settings: Settings) -> tuple[int, list[int]]:
+    """Refusal (1 to 3, or 0) and the bounds of levels 0 to N (none if refused).
+
+    At the top the bound is bin // 2. Below it is the multiplier times the bound of the level above, rounded up to a
+    whole number, plus bin // 2.
+    """
+    refusal = settings_refusal(settings)
+    if refusal != ACCEPTED:
+        return refusal, []
+    multiplier = Fraction(BOUND_HUNDREDTHS[settings.kernel], 100)
+    result = [settings.bins[settings.depth] // 2]
+    for level in range(settings.depth - 1, -1, -1):
+        result.insert(0, ceil(multiplier * result[0]) + settings.bins[level] // 2)
+    return ACCEPTED, result
