@@ -1,11 +1,11 @@
 -- Whole numbers at most a distance apart, and how sums, differences and products carry the distance on. Assumes nothing.
-use mathlib.Core.Path.{_≡_, refl}
+use mathlib.Core.Path.{_≡_}
 use Prim.Native.Nat.{ℕ, _+_, _*_, _≤_}
 use native.Mathlib.Nat.{le-trans, le-refl}
 use native.Mathlib.Omega.{arith}
 use lib.Dec.{leb→le, le→leb}
-use lib.IntN.{ℤ, pos, natAbs, _+ℤ_, _-ℤ_, _*ℤ_}
-use lib.Signed.{_≤ℤ_}
+use lib.IntN.{ℤ, pos, negsuc, natAbs, _+ℤ_, _-ℤ_, _*ℤ_}
+use lib.Signed.{_≤ℤ_, _<ℤ_}
 use Rattle.mathematics.proofs.Integers.{ints, all₁, all₂, all₃, all₄, _⊖_}
 use Rattle.mathematics.proofs.IntegerLaws.{*ℤ--ℤ, abs-product}
 
@@ -30,6 +30,9 @@ above-abs e = all₂ _ (λ p n q m. simp ints (omega arith))
 
 between-abs : (e : ℕ) (x y : ℤ) → x ≤ℤ (y +ℤ pos e) → y ≤ℤ (x +ℤ pos e) → natAbs (x -ℤ y) ≤ e
 between-abs e = all₂ _ (λ p n q m. simp ints (omega arith))
+
+negative-abs : (e : ℕ) (x y : ℤ) → natAbs (x -ℤ y) ≤ e → x <ℤ pos 0 → y ≤ℤ pos e
+negative-abs e = all₂ _ (λ p n q m. simp ints (omega arith))
 
 same-abs : (x y : ℤ) → natAbs (x -ℤ y) ≤ 0 → x ≡ y
 same-abs = all₂ _ (λ p n q m. simp ints (omega arith))
@@ -80,3 +83,7 @@ near-pos {a} {b} {e} n =
 
 pub pos-near : {a b e : ℕ} → a ≤ b + e → b ≤ a + e → Near e (pos a) (pos b)
 pos-near {a} {b} {e} h k = record { apart = between-abs e (pos a) (pos b) (record { le = le→leb a (b + e) h }) (record { le = le→leb b (a + e) k }) }
+
+-- from a negative number it is farther to n than from 0
+pub near-negative : {m n e : ℕ} → Near e (negsuc m) (pos n) → n ≤ e
+near-negative {m} {n} {e} c = leb→le n e (negative-abs e (negsuc m) (pos n) (c .apart) (record { lt = tt }) .le)

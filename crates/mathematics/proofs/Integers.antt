@@ -3,14 +3,14 @@
 --   law : (x y z : ℤ) → ..
 --   law = all₃ _ (λ p n q m r s. simp ints (omega arith))
 -- Assumes nothing.
-use mathlib.Core.Path.{_≡_, refl, sym, ap, _∙_, subst}
-use mathlib.Core.Logic.{_↔_, Iff·rfl}
+use mathlib.Core.Path.{_≡_, refl, sym, ap, subst}
+use mathlib.Core.Logic.{_↔_}
 use mathlib.Core.Bool.{Bool, true, false, not, cond}
 use Prim.Native.Nat.{ℕ, zero, suc, _+_, _*_, _-_, _<_, _≤_, _^_}
 use native.Mathlib.Decide.{decLe, decLt}
 use native.Mathlib.Omega.{arith}
-use lib.Dec.{T, ltb, leb, ltb→lt, nltb→le, lt→ltb, le→leb, leb→le, not-T, T-not}
-use lib.IntN.{ℤ, pos, negsuc, negℤ, natAbs, _+ℤ_, _-ℤ_, _*ℤ_, subℕ, pos-ne-negsuc}
+use lib.Dec.{T, ltb, ltb→lt, nltb→le, lt→ltb, le→leb, leb→le, not-T, T-not}
+use lib.IntN.{ℤ, pos, negsuc, negℤ, natAbs, _+ℤ_, _*ℤ_, subℕ, pos-ne-negsuc}
 use lib.Signed.{_≤ℤ_, _<ℤ_, leZ, ltZ, mag}
 use mir.Syntax.{Width}
 use mir.Val.{SFits, hbits}

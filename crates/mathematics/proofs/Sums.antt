@@ -1,9 +1,9 @@
 -- Laws of finite sums: distance, size, a common factor, and the order of two sums. Assumes nothing.
-use mathlib.Core.Path.{_≡_, refl, sym, ap, _∙_, subst}
+use mathlib.Core.Path.{_≡_, sym}
 use Prim.Native.Nat.{ℕ, zero, suc, _+_, _*_, _-_, _≤_, _<_}
 use native.Mathlib.Nat.{mul-zero, zero-mul, mul-add, add-mul, add-zero, add-suc, le-refl}
 use native.Mathlib.Omega.{arith}
-use lib.IntN.{ℤ, pos, natAbs, _+ℤ_, _-ℤ_, _*ℤ_, *ℤ-zero}
+use lib.IntN.{ℤ, pos, natAbs, _*ℤ_, *ℤ-zero}
 use Rattle.mathematics.specs.Sums.{sum}
 use Rattle.mathematics.proofs.IntegerLaws.{*ℤ-+ℤ, abs-sum}
 use Rattle.mathematics.proofs.Distance.{Near, near-refl, near-add}

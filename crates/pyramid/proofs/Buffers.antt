@@ -1,9 +1,9 @@
 -- What is read from a raster and from a buffer of all levels is what was put there; lengths, and tests of all elements. Assumes nothing.
 use mathlib.Core.Path.{_≡_, refl, sym, ap, _∙_, subst}
 use mathlib.Core.Bool.{Bool}
-use mathlib.Core.List.{List, [], _∷_, _++_, append-assoc, append-nil}
+use mathlib.Core.List.{List, [], _++_, append-assoc, append-nil}
 use Prim.Native.Nat.{ℕ, zero, suc, _+_, _-_, _*_, _/_, _%_, _≤_, _<_}
-use native.Mathlib.Nat.{zero-mul, suc-mul, zero-add, add-assoc, mul-le-mul-right, not-suc-le-zero, div-add-mod', mod-lt, div-lt-iff-lt-mul}
+use native.Mathlib.Nat.{zero-mul, suc-mul, mul-le-mul-right, not-suc-le-zero, div-add-mod', mod-lt, div-lt-iff-lt-mul}
 use native.Mathlib.Decide.{decLt, decLe}
 use native.Mathlib.Omega.{arith}
 use lib.Dec.{T}

@@ -8,3 +8,7 @@ pub mod Within
 pub mod Refusals
 pub mod Buffers
 pub mod Ranges
+pub mod Accuracy
+pub mod CodedLevels
+pub mod Depth
+pub mod WorkedPieces

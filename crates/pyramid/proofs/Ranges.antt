@@ -2,14 +2,13 @@
 -- level buffer stays below 2^19; and every sum of the steps fits 32 bits. Assumes nothing.
 -- A bound on the averages alone would be too weak for kernel 6: they are compared with the level that is 127 everywhere, which both steps
 -- leave as it is.
-use mathlib.Core.Path.{_≡_, refl, sym, subst}
-use mathlib.Core.Bool.{Bool, true, false, cond}
+use mathlib.Core.Path.{_≡_, subst}
 use mathlib.Core.List.{List}
 use Prim.Native.Nat.{ℕ, zero, suc, _+_, _-_, _*_, _/_, _^_, _≤_, _<_}
 use native.Mathlib.Omega.{arith}
-use native.Mathlib.Nat.{le-trans, mul-le-mul-left}
-use lib.Dec.{T, leb, eqb, leb→le, lit<}
-use lib.IntN.{ℤ, pos, natAbs, _+ℤ_, _-ℤ_, _*ℤ_}
+use native.Mathlib.Nat.{le-trans, mul-le-mul-left, mul-le-mul-right}
+use lib.Dec.{T, leb, leb→le, lit<}
+use lib.IntN.{ℤ, pos, natAbs}
 use Rattle.mathematics.specs.Tests.{allBelow}
 use Rattle.mathematics.proofs.Tests.{below-at}
 use Rattle.mathematics.proofs.Distance.{Near, near-more, near-trans, near-add, near-sub, near-zero, abs-near, pos-near}
@@ -17,22 +16,22 @@ use Rattle.mathematics.proofs.IntegerLaws.{abs-*ℤ}
 use Rattle.pyramid.specs.declared.Settings.{Settings}
 use Rattle.pyramid.specs.Settings.{bin}
 use Rattle.pyramid.specs.Sizes.{Level, last}
-use Rattle.pyramid.specs.Pyramid.{reduced, expanded, indexOf, average, difference, index}
+use Rattle.pyramid.specs.Pyramid.{reduced, expanded, average, difference, index}
 use Rattle.pyramid.specs.Weights.{weight}
 use Rattle.pyramid.specs.Edge.{reflect}
 use Rattle.pyramid.specs.Steps.{evenWeight, halved}
 use Rattle.pyramid.specs.Rebuilding.{valueOf, rebuild, rebuilt}
 use Rattle.pyramid.specs.Buffers.{Bytes, pixels, readLevels}
-use Rattle.pyramid.specs.Bound.{hundredths, magnified, tolerance}
+use Rattle.pyramid.specs.Bound.{magnified, tolerance}
 use Rattle.pyramid.specs.Refusals.{limit, valuesOk}
 use Rattle.pyramid.specs.Ranges.{EachNode, ReduceSums, ExpandSums, CodingRanges, RebuildingRanges, Fits32}
-use Rattle.pyramid.proofs.Lawful.{Bin, Lawful}
+use Rattle.pyramid.proofs.Lawful.{Kernel, Bin, Lawful}
 use Rattle.pyramid.proofs.Sizes.{last-suc, last-least}
-use Rattle.pyramid.proofs.Weights.{reach, weight-size, even-size}
+use Rattle.pyramid.proofs.Weights.{weight-size, even-size, reach-most, hundredths-most}
 use Rattle.pyramid.proofs.Windows.{window-sums}
 use Rattle.pyramid.proofs.Edge.{reduce-inside, expand-inside}
 use Rattle.pyramid.proofs.Buffers.{stack-all}
-use Rattle.pyramid.proofs.Steps.{NearLevel, spread, near-reduce, reduce-constant, expand-constant}
+use Rattle.pyramid.proofs.Steps.{spread, near-reduce, reduce-constant, expand-constant}
 use Rattle.pyramid.proofs.Within.{NearAt, near-index, near-expanded}
 
 -- ---- how far averages of level l lie from 127, and what EXPAND of a level can make of a distance
@@ -41,13 +40,9 @@ unfoldable pub spreadTo : ℕ → ℕ
 spreadTo zero = 128
 spreadTo (suc l) = spread (spreadTo l)
 
-most-magnified : (k e : ℕ) → magnified k e ≤ (196 * e + 99) / 100
-unfolding magnified hundredths
-most-magnified k e = go (eqb k 6)
-  where
-    go : (six : Bool) → (cond six 196 100 * e + 99) / 100 ≤ (196 * e + 99) / 100
-    go true = omega arith
-    go false = omega arith
+most-magnified : {k : ℕ} → Kernel k → (e : ℕ) → magnified k e ≤ (196 * e + 99) / 100
+unfolding magnified
+most-magnified h e = let m = mul-le-mul-right e (hundredths-most h) in omega arith
 
 average-room : (l : ℕ) → l ≤ 6 → 127 + spreadTo l ≤ 3968
 average-room l h = leb→le (127 + spreadTo l) 3968 (below-at 7 (λ l. leb (127 + spreadTo l) 3968) (unfold allBelow spreadTo in tt) l (omega arith))
@@ -56,7 +51,7 @@ difference-room : (l : ℕ) → l < 6 → spreadTo l + (196 * spreadTo (suc l) +
 difference-room l h =
     leb→le _ 3968 (below-at 6 (λ l. leb (spreadTo l + (196 * spreadTo (suc l) + 99) / 100) 3968) (unfold allBelow spreadTo in tt) l h)
 
--- what the room left by half a bin comes to
+-- how far from 0 rebuilt values can lie, with d levels above
 height : ℕ → ℕ
 height zero = limit
 height (suc d) = limit + (196 * height d + 99) / 100
@@ -69,7 +64,7 @@ module _ (s : Settings) (law : Lawful s) where
   near-constant : (l : ℕ) → suc l ≤ s .depth → (e : ℕ) (u : Level) (c : ℤ) → NearAt s law (suc l) e u (λ i j. c)
       → NearAt s law l ((196 * e + 99) / 100) (expanded s l u) (λ i j. c)
   near-constant l hl e u c close i j hi hj =
-      near-more (most-magnified (s .kernel) e)
+      near-more (most-magnified (law .kernel) e)
       (subst (Near (magnified (s .kernel) e) (expanded s l u i j)) (expand-constant (law .kernel) (last (s .columns) (suc l)) (last (s .rows) (suc l)) c i j)
       (near-expanded s law l hl e u (λ i j. c) close i j hi hj))
 
@@ -125,20 +120,13 @@ module _ (s : Settings) (law : Lawful s) where
       (reduce-inside (last (s .rows) l) j n (omega (arith, last-suc (s .rows) l, last-least (law .along) (suc l) hl)) (omega (arith, last-suc (s .rows) l)) hn)))
       24 (weight-size (law .kernel)) (weight-size (law .kernel))
 
-  most-reach : (k : ℕ) → reach k ≤ 14
-  most-reach k = go (eqb k 6)
-    where
-      go : (six : Bool) → cond six 14 10 ≤ 14
-      go true = omega arith
-      go false = omega arith
-
   expand-sums : (l : ℕ) → l < s .depth → (g : Level) (e : ℕ) → NearAt s law (suc l) e g (λ i j. pos 0) → ExpandSums s l g e
   expand-sums l hl g e small i j hi hj =
       window-sums (evenWeight (s .kernel) i) (evenWeight (s .kernel) j) (λ t. reflect (last (s .columns) (suc l)) (halved i t)) (λ t. reflect (last (s .rows) (suc l)) (halved j t)) g e
       (λ m n hm hn. abs-near (small _ _
       (expand-inside (last (s .columns) (suc l)) i m (last-least (law .across) (suc l) hl) (omega (arith, last-suc (s .columns) l)) hm)
       (expand-inside (last (s .rows) (suc l)) j n (last-least (law .along) (suc l) hl) (omega (arith, last-suc (s .rows) l)) hn)))
-      14 (le-trans (even-size (law .kernel) i) (most-reach (s .kernel))) (le-trans (even-size (law .kernel) j) (most-reach (s .kernel)))
+      14 (le-trans (even-size (law .kernel) i) (reach-most (law .kernel))) (le-trans (even-size (law .kernel) j) (reach-most (law .kernel)))
 
   -- ---- of all nodes
 

@@ -1,8 +1,8 @@
 -- What an accepted call says of its arguments, and what is left in a buffer. Assumes nothing.
-use mathlib.Core.Path.{_≡_, refl, sym, ap, _∙_}
+use mathlib.Core.Path.{_≡_, refl}
 use mathlib.Core.Bool.{Bool, true, false}
 use mathlib.Core.List.{List, [], _∷_}
-use Prim.Native.Nat.{ℕ, zero, suc, _*_, _≤_, _<_}
+use Prim.Native.Nat.{ℕ, zero, suc, _*_, _≤_}
 use native.Mathlib.Omega.{arith}
 use lib.Dec.{T, leb, eqb, leb→le, eqb→eq}
 use lib.IntN.{ℤ}
@@ -22,6 +22,11 @@ first-none (suc n) later e = absurd (omega arith)
 pub first-skip : (x : ℕ) (later : List ℕ) → x ≡ 0 → first (x ∷ later) ≡ first later
 unfolding first
 first-skip x later e = rw e
+
+only : (x : ℕ) → first (x ∷ 0 ∷ []) ≡ x
+unfolding first
+only zero = refl
+only (suc n) = refl
 
 unless-none : (holds : Bool) (number : ℕ) → unless holds (suc number) ≡ 0 → T holds
 unfolding unless
@@ -76,6 +81,12 @@ module _ (s : Settings) where
         record { law = accepted-settings settings; sized = accepted-buffers (length picture) (length levels) (length work) buffers },
         unless-none (valuesOk s levels) 10 (first-none _ _ e₁₁ .0),
       )
+
+  -- rebuilding of levels whose values are in range, under lawful settings, is refused for its buffers' lengths alone
+  pub rebuilding-lengths : (levels : List ℤ) (picture : List ℕ) (work : List ℤ) → settingsRefusal s ≡ 0 → T (valuesOk s levels)
+      → rebuildingRefusal s levels picture work ≡ buffersRefusal s (length picture) (length levels) (length work)
+  unfolding rebuildingRefusal
+  rebuilding-lengths levels picture work e t = rw (first-skip _ _ e, unless-holds (valuesOk s levels) 11 t) (only _)
 
 pub leaves-new : {A : Type 0} (answer : ℕ) (new old : A) → answer ≡ 0 → leaves answer new old ≡ new
 unfolding leaves

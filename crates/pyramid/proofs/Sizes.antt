@@ -1,11 +1,11 @@
 -- Laws of the levels' sizes: halving, at least two columns and rows, and at most the picture's. Assumes nothing.
-use mathlib.Core.Path.{_≡_, refl, sym, ap, _∙_}
-use Prim.Native.Nat.{ℕ, zero, suc, _+_, _-_, _*_, _/_, _%_, _^_, _≤_, _<_}
+use mathlib.Core.Path.{_≡_, sym, ap, _∙_}
+use Prim.Native.Nat.{ℕ, zero, suc, _+_, _-_, _/_, _^_, _≤_}
 use native.Mathlib.Nat.{div-one, div-le-self, div-div-eq-div-mul, pow-suc, le-div-iff-mul-le, one-le-pow, pow-le-pow-right, le-of-dvd, dvd-of-mod-eq-zero, add-zero, add-suc, le-refl}
 use native.Mathlib.Omega.{arith}
 use Rattle.pyramid.specs.declared.Settings.{Settings}
-use Rattle.pyramid.specs.Sizes.{last, nodesAt, nodesTo, total}
-use Rattle.pyramid.proofs.Lawful.{Side, Lawful}
+use Rattle.pyramid.specs.Sizes.{last, nodesTo}
+use Rattle.pyramid.proofs.Lawful.{Side}
 
 -- ---- one side
 

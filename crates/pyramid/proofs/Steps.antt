@@ -1,23 +1,20 @@
 -- Laws of REDUCE and EXPAND: a constant level stays as it is, and how far apart the steps of two levels are. Assumes nothing.
-use mathlib.Core.Path.{_≡_, sym, ap, ap₂, _∙_}
-use mathlib.Core.Bool.{Bool, true, false, cond}
-use Prim.Native.Nat.{ℕ, suc, _+_, _*_, _/_, _≤_, _<_}
-use native.Mathlib.Nat.{mul-le-mul, mul-le-mul-right}
+use mathlib.Core.Path.{_≡_}
+use Prim.Native.Nat.{ℕ, _+_, _*_, _/_, _≤_}
+use native.Mathlib.Nat.{mul-le-mul, mul-le-mul-right, mul-assoc, le-trans}
 use native.Mathlib.Omega.{arith}
-use lib.Dec.{eqb, lit<}
-use lib.IntN.{ℤ, pos, _+ℤ_, _*ℤ_, +ℤ-idl}
-use Rattle.mathematics.specs.Sums.{sum}
+use lib.Dec.{lit<}
+use lib.IntN.{ℤ, pos, _*ℤ_}
 use Rattle.mathematics.proofs.Integers.{ints, all₁, _⊖_}
 use Rattle.mathematics.proofs.Distance.{Near, near-more, near-mul}
-use Rattle.quantizer.specs.Rounding.{roundDiv}
 use Rattle.quantizer.proofs.Rounding.{round-near, round-whole}
 use Rattle.pyramid.specs.Sizes.{Level}
 use Rattle.pyramid.specs.Weights.{weight}
 use Rattle.pyramid.specs.Edge.{reflect}
-use Rattle.pyramid.specs.Steps.{window, reduce, evenWeight, halved, expand}
+use Rattle.pyramid.specs.Steps.{reduce, evenWeight, halved, expand}
 use Rattle.pyramid.specs.Bound.{hundredths, magnified}
 use Rattle.pyramid.proofs.Lawful.{Kernel}
-use Rattle.pyramid.proofs.Weights.{size, weight-sum, weight-size, even-sum, even-size, reach}
+use Rattle.pyramid.proofs.Weights.{size, weight-sum, weight-size, even-sum, even-size, reach, reach-square}
 use Rattle.pyramid.proofs.Windows.{window-constant, near-window}
 use Rattle.pyramid.proofs.Edge.{reduce-inside, expand-inside}
 
@@ -60,19 +57,17 @@ near-reduce {k} h zc zr e u v close hc hr i j hi hj =
     (near-window (weight k) (weight k) (λ t. reflect zc (2 * i + t)) (λ t. reflect zr (2 * j + t)) u v e
     (λ m n hm hn. close _ _ (reduce-inside zc i m hc hi hm) (reduce-inside zr j n hr hj hn))))
 
-covers : (k a b e : ℕ) → a ≤ reach k → b ≤ reach k → 4 * (a * (b * e)) ≤ magnified k e * 400
-unfolding magnified hundredths
-covers k a b e = go (eqb k 6)
-  where
-    go : (six : Bool) → a ≤ cond six 14 10 → b ≤ cond six 14 10 → 4 * (a * (b * e)) ≤ (cond six 196 100 * e + 99) / 100 * 400
-    go true ha hb = omega (arith, mul-le-mul ha (mul-le-mul-right e hb))
-    go false ha hb = omega (arith, mul-le-mul ha (mul-le-mul-right e hb))
+covers : {k : ℕ} → Kernel k → (a b e : ℕ) → a ≤ reach k → b ≤ reach k → 4 * (a * (b * e)) ≤ magnified k e * 400
+unfolding magnified
+covers {k} h a b e ha hb =
+    let square : a * (b * e) ≤ hundredths k * e = rw (← mul-assoc) (mul-le-mul-right e (le-trans (mul-le-mul ha hb) (reach-square h))) in
+    omega arith
 
 pub near-expand : {k : ℕ} → Kernel k → (zc zr e : ℕ) (u v : Level) → NearLevel e zc zr u v → 1 ≤ zc → 1 ≤ zr
     → NearLevel (magnified k e) (2 * zc + 1) (2 * zr + 1) (expand k zc zr u) (expand k zc zr v)
 unfolding expand
 near-expand {k} h zc zr e u v close hc hr i j hi hj =
     round-near 400 (magnified k e) (lit< tt)
-    (near-more (covers k (size (evenWeight k i)) (size (evenWeight k j)) e (even-size h i) (even-size h j))
+    (near-more (covers h (size (evenWeight k i)) (size (evenWeight k j)) e (even-size h i) (even-size h j))
     (near-mul (pos 4) (near-window (evenWeight k i) (evenWeight k j) (λ t. reflect zc (halved i t)) (λ t. reflect zr (halved j t)) u v e
     (λ m n hm hn. close _ _ (expand-inside zc i m hc hi hm) (expand-inside zr j n hr hj hn)))))

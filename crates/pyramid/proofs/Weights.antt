@@ -2,7 +2,7 @@
 -- EXPAND takes at even and at odd columns. Assumes nothing.
 use mathlib.Core.Path.{_≡_, sym, ap, fun-ext}
 use mathlib.Core.Bool.{Bool, false, cond}
-use Prim.Native.Nat.{ℕ, _+_, _-_, _%_, _≤_}
+use Prim.Native.Nat.{ℕ, _+_, _-_, _*_, _%_, _≤_}
 use native.Mathlib.Nat.{mod-add-mod}
 use native.Mathlib.Omega.{arith}
 use lib.Dec.{T, leb, eqb, leb→le, eqb→eq}
@@ -13,6 +13,7 @@ use Rattle.mathematics.proofs.Tests.{below-at, between-at}
 use Rattle.mathematics.proofs.Sums.{total}
 use Rattle.pyramid.specs.Weights.{weights, fromCentre, weight}
 use Rattle.pyramid.specs.Steps.{evenWeight}
+use Rattle.pyramid.specs.Bound.{hundredths}
 use Rattle.pyramid.proofs.Lawful.{Kernel}
 
 -- a test of the four kernels holds at each lawful one
@@ -61,10 +62,20 @@ at-column test t {k} h i =
 pub even-sum : {k : ℕ} → Kernel k → (i : ℕ) → sum 5 (evenWeight k i) ≡ pos 10
 even-sum {k} h i = is-eq (sum 5 (evenWeight k i)) 10 (at-column (λ k a. is (sum 5 a) 10) (unfold allBelow is sum evenWeight weight weights in tt) h i)
 
--- 14 at most for kernel 6, 10 for the others: the square in hundredths is the bound's multiplier
+-- 14 at most for kernel 6, 10 for the others; the square is the bound's multiplier in hundredths
 abbrev pub reach : ℕ → ℕ
 reach k = cond (eqb k 6) 14 10
 
 pub even-size : {k : ℕ} → Kernel k → (i : ℕ) → size (evenWeight k i) ≤ reach k
 even-size {k} h i =
     leb→le (size (evenWeight k i)) (reach k) (at-column (λ k a. leb (size a) (reach k)) (unfold allBelow total evenWeight weight weights in tt) h i)
+
+pub reach-square : {k : ℕ} → Kernel k → reach k * reach k ≤ hundredths k
+reach-square {k} h =
+    leb→le (reach k * reach k) (hundredths k) (at-kernel (λ k. leb (reach k * reach k) (hundredths k)) (unfold allBelow hundredths in tt) h)
+
+pub reach-most : {k : ℕ} → Kernel k → reach k ≤ 14
+reach-most {k} h = leb→le (reach k) 14 (at-kernel (λ k. leb (reach k) 14) (unfold allBelow in tt) h)
+
+pub hundredths-most : {k : ℕ} → Kernel k → hundredths k ≤ 196
+hundredths-most {k} h = leb→le (hundredths k) 196 (at-kernel (λ k. leb (hundredths k) 196) (unfold allBelow hundredths in tt) h)

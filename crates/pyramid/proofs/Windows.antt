@@ -1,10 +1,10 @@
 -- Laws of the window: rows before columns, a constant level, how far apart windows over two levels are, and the size of every partial sum.
 -- Assumes nothing.
-use mathlib.Core.Path.{_≡_, refl, sym, ap, _∙_, subst, fun-ext}
+use mathlib.Core.Path.{_≡_, ap, _∙_, subst, fun-ext}
 use Prim.Native.Nat.{ℕ, _*_, _≤_, _<_}
 use native.Mathlib.Nat.{mul-assoc, mul-le-mul, mul-le-mul-right, le-trans, le-refl}
 use native.Mathlib.Omega.{arith}
-use lib.IntN.{ℤ, pos, natAbs, _*ℤ_, *ℤ-comm}
+use lib.IntN.{ℤ, natAbs, _*ℤ_, *ℤ-comm}
 use Rattle.mathematics.specs.Sums.{sum}
 use Rattle.mathematics.proofs.Integers.{ints, all₃, _⊖_}
 use Rattle.mathematics.proofs.IntegerLaws.{abs-*ℤ, abs-product}

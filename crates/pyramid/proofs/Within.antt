@@ -1,8 +1,8 @@
 -- Rebuilt values lie within each level's bound of the averages. Assumes nothing.
 use mathlib.Core.Path.{_≡_, subst}
-use Prim.Native.Nat.{ℕ, zero, suc, _+_, _-_, _*_, _/_, _≤_}
+use Prim.Native.Nat.{ℕ, zero, suc, _+_, _-_, _≤_}
 use native.Mathlib.Omega.{arith}
-use lib.IntN.{ℤ, _+ℤ_, _-ℤ_, -ℤ-+ℤ-cancel}
+use lib.IntN.{ℤ, -ℤ-+ℤ-cancel}
 use Rattle.mathematics.proofs.Distance.{Near, near-more, near-add}
 use Rattle.quantizer.proofs.Bins.{bin-near}
 use Rattle.pyramid.specs.declared.Settings.{Settings}

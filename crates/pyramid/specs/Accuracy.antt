@@ -4,7 +4,6 @@ use mathlib.Core.List.{List, [], _∷_}
 use Prim.Native.Nat.{ℕ, _+_, _-_, _≤_, _<_}
 use lib.IntN.{natAbs, _-ℤ_}
 use lib.ListN.{length, getD}
-use Rattle.pyramid.specs.declared.Settings.{Settings}
 use Rattle.pyramid.specs.Sizes.{columnsAt, rowsAt}
 use Rattle.pyramid.specs.Pyramid.{average}
 use Rattle.pyramid.specs.Bound.{boundAt}

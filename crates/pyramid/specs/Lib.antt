@@ -13,3 +13,4 @@ pub mod Calls
 pub mod Ranges
 pub mod Generations
 pub mod Accuracy
+pub mod WorkedPieces

@@ -1,6 +1,6 @@
 -- Laws of the bin rule: one answer, a computed answer, and the distance of a value from its index's value. Assumes nothing.
 use mathlib.Core.Path.{_≡_, sym}
-use Prim.Native.Nat.{ℕ, suc, _+_, _-_, _*_, _/_, _<_, _≤_}
+use Prim.Native.Nat.{ℕ, suc, _+_, _-_, _/_, _<_, _≤_}
 use native.Mathlib.Nat.{lt-of-mul-lt-mul-right, le-of-suc-le-suc}
 use native.Mathlib.Omega.{arith}
 use mathlib.Core.Bool.{Bool, _&&_}

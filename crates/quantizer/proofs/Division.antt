@@ -1,5 +1,5 @@
 -- Division toward zero, its remainder, and the quotient rounded down that they give; the range of that quotient. Assumes nothing.
-use mathlib.Core.Path.{_≡_, refl, sym, ap, _∙_}
+use mathlib.Core.Path.{_≡_, sym, ap}
 use Prim.Native.Nat.{ℕ, suc, _+_, _*_, _/_, _%_, _^_, _<_, _≤_}
 use native.Mathlib.Nat.{div-add-mod', mod-lt, div-le-self, lt-of-le-of-lt}
 use native.Mathlib.Omega.{arith}

@@ -1,7 +1,7 @@
 -- `quantizer::divide` meets its contract: the quotient toward zero, put right by the remainder with the addend. Assumes nothing.
 use mathlib.Core.Path.{_≡_}
 use lib.IntN.{pos, _+ℤ_, _-ℤ_}
-use lib.Signed.{_≤ℤ_, _<ℤ_, quotZ, remZ}
+use lib.Signed.{quotZ, remZ}
 use borrow.Author.Needs.{sfits-of}
 use mir.Syntax.{w32}
 use mir.Val.{SFits, toZ, ofZ}

@@ -1,6 +1,6 @@
 -- `quantizer::round_div` meets its contract, by what `divide` promises and the law of rounding. Assumes nothing.
 use mathlib.Core.Path.{_≡_, sym, ap, _∙_}
-use Prim.Native.Nat.{_-_, _/_}
+use Prim.Native.Nat.{_/_}
 use native.Mathlib.Omega.{arith}
 use borrow.Author.Needs.{needs, sfits-of}
 use lib.IntN.{ℤ}

@@ -1,12 +1,12 @@
 -- `roundDiv` meets document 01's rule of rounding. Assumes nothing.
 use mathlib.Core.Path.{_≡_, refl}
-use Prim.Native.Nat.{ℕ, zero, suc, _+_, _*_, _/_, _%_, _<_, _≤_}
+use Prim.Native.Nat.{ℕ, zero, suc, _+_, _*_, _<_}
 use native.Mathlib.Nat.{div-add-mod', mod-lt, lt-of-mul-lt-mul-right, le-of-suc-le-suc}
 use native.Mathlib.Omega.{arith}
-use lib.IntN.{ℤ, pos, negsuc, _+ℤ_, _-ℤ_, _*ℤ_}
+use lib.IntN.{ℤ, pos, negsuc, _+ℤ_, _*ℤ_}
 use lib.Signed.{_≤ℤ_, _<ℤ_, shrZ}
 use Rattle.mathematics.proofs.Integers.{ints, all₂, all₃, _⊖_}
-use Rattle.quantizer.specs.Rounding.{roundDiv, NotAbove, Rounded}
+use Rattle.quantizer.specs.Rounding.{roundDiv, Rounded}
 
 -- 2qD ≤ 2S + D < 2(q + 1)D
 pub record Between (S : ℤ) (D : ℕ) (q : ℤ) : Type 0 where

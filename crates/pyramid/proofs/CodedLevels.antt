@@ -1,0 +1,71 @@
+-- Levels from an accepted coding are never turned down with 11: rebuilding them answers what the lengths of its own buffers say.
+-- Assumes nothing.
+use mathlib.Core.Path.{_≡_, sym, ap, _∙_}
+use mathlib.Core.Bool.{Bool, true, false}
+use mathlib.Core.List.{List, [], _∷_, append-nil}
+use Prim.Native.Nat.{ℕ, _≤_, _<_}
+use native.Mathlib.Omega.{arith}
+use lib.Dec.{T, leb, le→leb}
+use lib.IntN.{ℤ, natAbs}
+use lib.ListN.{length}
+use Rattle.pyramid.specs.declared.Settings.{Settings}
+use Rattle.pyramid.specs.Sizes.{columnsAt, rowsAt, total}
+use Rattle.pyramid.specs.Pyramid.{index}
+use Rattle.pyramid.specs.Rebuilding.{valueOf}
+use Rattle.pyramid.specs.Buffers.{Bytes, pixels, allLevels, readLevels}
+use Rattle.pyramid.specs.Refusals.{unless, first, limit, settingsRefusal, buffersRefusal, valuesOk, codingRefusal}
+use Rattle.pyramid.specs.Calls.{coding, rebuilding}
+use Rattle.pyramid.specs.Ranges.{CodingRanges}
+use Rattle.pyramid.proofs.Refusals.{Accepted, first-none, accepted-coding, rebuilding-lengths, leaves-new}
+use Rattle.pyramid.proofs.Buffers.{length-stack, read-stack, all-stack}
+use Rattle.pyramid.proofs.Ranges.{coding-ranges}
+
+-- the numbers that the lengths of buffers can give
+not-eleven : (a b c : Bool) → first (unless a 5 ∷ unless b 6 ∷ unless c 7 ∷ []) ≡ 11 → ⊥
+unfolding first unless
+not-eleven true true true e = omega arith
+not-eleven true true false e = omega arith
+not-eleven true false c e = omega arith
+not-eleven false b c e = omega arith
+
+module _ (s : Settings) (picture : List ℕ) (levels work : List ℤ) (bytes : Bytes picture) (ok : coding s picture levels work .answer ≡ 0) where
+  abbrev left : List ℤ
+  left = coding s picture levels work .levels
+
+  call : Accepted s picture levels work
+  unfolding coding
+  call = accepted-coding s picture levels work ok
+
+  settings-ok : settingsRefusal s ≡ 0
+  unfolding coding codingRefusal
+  settings-ok = first-none _ _ ok .0
+
+  left-is : left ≡ allLevels s (index s (pixels (s .columns) picture))
+  unfolding coding
+  left-is = leaves-new _ _ _ ok
+
+  ranges : CodingRanges s (pixels (s .columns) picture)
+  ranges = coding-ranges s (call .law) picture bytes
+
+  read-left : (l i j : ℕ) → l ≤ s .depth → i < columnsAt s l → j < rowsAt s l → readLevels s left l i j ≡ index s (pixels (s .columns) picture) l i j
+  read-left l i j hl hi hj =
+      ap (λ (b : List ℤ). readLevels s b l i j) (left-is ∙ sym (append-nil _)) ∙ read-stack s (index s (pixels (s .columns) picture)) l i j [] hl hi hj
+
+  pub coded-values : T (valuesOk s left)
+  unfolding valuesOk
+  coded-values =
+      all-stack s (λ v. leb (natAbs v) limit) (λ l i j. valueOf s l (readLevels s left l i j)) (s .depth)
+      (λ l i j hl hi hj. rw (read-left l i j hl hi hj) (le→leb _ limit (ranges .values l hl i j hi hj)))
+
+  pub coded-length : length left ≡ length levels
+  unfolding total
+  coded-length = ap length left-is ∙ length-stack s (index s (pixels (s .columns) picture)) (s .depth) ∙ sym (call .sized .levels-is)
+
+  module _ (target : List ℕ) (targetWork : List ℤ) where
+    pub rebuilding-coded : rebuilding s left target targetWork .answer ≡ buffersRefusal s (length target) (length levels) (length targetWork)
+    unfolding rebuilding
+    rebuilding-coded = rebuilding-lengths s left target targetWork settings-ok coded-values ∙ ap (λ (n : ℕ). buffersRefusal s (length target) n (length targetWork)) coded-length
+
+    pub never-eleven : rebuilding s left target targetWork .answer ≡ 11 → ⊥
+    unfolding buffersRefusal
+    never-eleven e = not-eleven _ _ _ (sym rebuilding-coded ∙ e)
