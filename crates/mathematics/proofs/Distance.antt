@@ -6,7 +6,7 @@ use native.Mathlib.Omega.{arith}
 use lib.Dec.{leb→le, le→leb}
 use lib.IntN.{ℤ, pos, negsuc, natAbs, _+ℤ_, _-ℤ_, _*ℤ_}
 use lib.Signed.{_≤ℤ_, _<ℤ_}
-use Rattle.mathematics.proofs.Integers.{ints, all₁, all₂, all₃, all₄, _⊖_}
+use Rattle.mathematics.proofs.Integers.{ints, all₁, all₂, all₃, all₄}
 use Rattle.mathematics.proofs.IntegerLaws.{*ℤ--ℤ, abs-product}
 
 -- x and y are at most e apart

@@ -4,3 +4,6 @@ pub mod Distance
 pub mod Tests
 pub mod Sums
 pub mod Tables
+pub mod Held
+pub mod Splices
+pub mod Filling

@@ -1,10 +1,11 @@
 -- Laws of finite sums: distance, size, a common factor, and the order of two sums. Assumes nothing.
-use mathlib.Core.Path.{_≡_, sym}
+use mathlib.Core.Path.{_≡_, refl, sym}
 use Prim.Native.Nat.{ℕ, zero, suc, _+_, _*_, _-_, _≤_, _<_}
 use native.Mathlib.Nat.{mul-zero, zero-mul, mul-add, add-mul, add-zero, add-suc, le-refl}
 use native.Mathlib.Omega.{arith}
-use lib.IntN.{ℤ, pos, natAbs, _*ℤ_, *ℤ-zero}
+use lib.IntN.{ℤ, pos, natAbs, _+ℤ_, _*ℤ_, *ℤ-zero}
 use Rattle.mathematics.specs.Sums.{sum}
+use Rattle.mathematics.proofs.Integers.{ints, all₄}
 use Rattle.mathematics.proofs.IntegerLaws.{*ℤ-+ℤ, abs-sum}
 use Rattle.mathematics.proofs.Distance.{Near, near-refl, near-add}
 
@@ -45,3 +46,29 @@ pub sum-scale : (w : ℤ) (n : ℕ) (f : ℕ → ℤ) → sum n (λ t. w *ℤ f 
 unfolding sum
 sum-scale w zero f = sym (*ℤ-zero w)
 sum-scale w (suc n) f = simp (sum-scale w n f, *ℤ-+ℤ)
+
+-- ---- two sums in either order
+
+sum-zero : (n : ℕ) → sum n (λ t. pos 0) ≡ pos 0
+unfolding sum
+sum-zero zero = refl
+sum-zero (suc n) = rw (sum-zero n)
+
+cross : (a b c d : ℤ) → (a +ℤ b) +ℤ (c +ℤ d) ≡ (a +ℤ c) +ℤ (b +ℤ d)
+cross = all₄ _ (λ p n q m r s t u. simp ints (omega arith))
+
+sum-add : (n : ℕ) (f g : ℕ → ℤ) → sum n (λ t. f t +ℤ g t) ≡ sum n f +ℤ sum n g
+unfolding sum
+sum-add zero f g = refl
+sum-add (suc n) f g = rw (sum-add n f g) (cross (sum n f) (sum n g) (f n) (g n))
+
+pub sum-swap : (n m : ℕ) (f : ℕ → ℕ → ℤ) → sum n (λ i. sum m (λ j. f i j)) ≡ sum m (λ j. sum n (λ i. f i j))
+unfolding sum
+sum-swap zero m f = sym (sum-zero m)
+sum-swap (suc n) m f = rw (sum-swap n m f) (sym (sum-add m (λ j. sum n (λ i. f i j)) (f n)))
+
+-- the same terms
+pub sum-same : (n : ℕ) (f g : ℕ → ℤ) → ((t : ℕ) → t < n → f t ≡ g t) → sum n f ≡ sum n g
+unfolding sum
+sum-same zero f g h = refl
+sum-same (suc n) f g h = rw (sum-same n f g (λ t ht. h t (omega arith)), h n (omega arith))

@@ -1,12 +1,16 @@
--- Laws of tests: what a passed test says, and a rule that one computed test proves at each number below a bound. Assumes nothing.
-use mathlib.Core.Path.{_≡_, subst}
+-- Laws of tests: what a passed test says, a rule that one computed test proves at each number below a bound, and a loop that tests a list.
+-- Assumes nothing.
+use mathlib.Core.Path.{_≡_, refl, sym, subst}
 use mathlib.Core.Bool.{Bool, true, false, not, cond, _&&_}
 use mathlib.Core.List.{List, [], _∷_, _++_}
 use Prim.Native.Nat.{ℕ, zero, suc, _+_, _-_, _≤_, _<_}
 use native.Mathlib.Nat.{not-suc-le-zero}
 use native.Mathlib.Decide.{decLt}
+use native.Mathlib.Numerals.{add-one}
 use native.Mathlib.Omega.{arith}
 use lib.Dec.{T}
+use lib.ListN.{length, getD, drop, drop-of-length-le}
+use lib.Seq.{drop-cons}
 use Rattle.mathematics.specs.Tests.{allBelow, all}
 
 pub both : (a b : Bool) → T (a && b) → T a × T b
@@ -25,6 +29,13 @@ pub cond-elim : {A : Type 0} (c : Bool) (x y : A) (P : A → Type 0) → (T c �
 cond-elim true x y P f g = f tt
 cond-elim false x y P f g = g tt
 
+-- tests that pass together are the same
+pub same-test : (a b : Bool) → (T a → T b) → (T b → T a) → a ≡ b
+same-test true true f g = refl
+same-test true false f g = absurd (f tt)
+same-test false true f g = absurd (g tt)
+same-test false false f g = refl
+
 -- ---- 0 to n - 1
 
 pub below-at : (n : ℕ) (test : ℕ → Bool) → T (allBelow n test) → (k : ℕ) → k < n → T (test k)
@@ -35,6 +46,14 @@ below-at (suc n) test t k h = cases (below-at n test (both (allBelow n test) (te
     cases : (k < n → T (test k)) → Dec (k < n) → T (test k)
     cases before (yes l) = before l
     cases before (no l) = let e : n ≡ k = omega arith in subst (λ (m : ℕ). T (test m)) e (both (allBelow n test) (test n) t .1)
+
+-- one number more, and a number at which the test fails
+pub below-next : (n : ℕ) (test : ℕ → Bool) → allBelow n test ≡ true → test n ≡ true → allBelow (n + 1) test ≡ true
+unfolding allBelow
+below-next n test e f = rw (add-one n, e, f)
+
+pub below-fails : (n : ℕ) (test : ℕ → Bool) (k : ℕ) → k < n → test k ≡ false → allBelow n test ≡ false
+below-fails n test k h e = same-test (allBelow n test) false (λ t. rw e at (below-at n test t k h)) (λ t. absurd t)
 
 -- from a to a + n - 1
 pub between-at : (a n : ℕ) (test : ℕ → Bool) → T (allBelow n (λ m. test (a + m))) → (k : ℕ) → a ≤ k → k < a + n → T (test k)
@@ -61,3 +80,25 @@ module _ {A : Type 0} (test : A → Bool) where
   unfolding all
   all-back [] ys t = t
   all-back (x ∷ xs) ys t = all-back xs ys (both (test x) (all test (xs ++ ys)) t .1)
+
+  -- ---- a loop that tests one element a turn: those before i pass
+
+  pub record Passing (xs : List A) (i : ℕ) : Type 0 where
+    pub bound : i ≤ length xs
+    pub rest : all test xs ≡ all test (drop i xs)
+
+  pub passing-start : (xs : List A) → Passing xs 0
+  passing-start xs = record { bound = omega arith; rest = refl }
+
+  pub passing-end : {xs : List A} {i : ℕ} → Passing xs i → length xs ≤ i → true ≡ all test xs
+  unfolding all
+  passing-end {xs} {i} r h = sym (rw (drop-of-length-le xs {i = i} h) at (r .rest))
+
+  module _ {xs : List A} {i : ℕ} (r : Passing xs i) (d : A) (h : i < length xs) where
+    pub passing-next : test (getD xs i d) ≡ true → Passing xs (i + 1)
+    unfolding all
+    passing-next e = record { bound = omega arith; rest = rw add-one (rw (drop-cons xs i d h, e) at (r .rest)) }
+
+    pub passing-fails : test (getD xs i d) ≡ false → false ≡ all test xs
+    unfolding all
+    passing-fails e = sym (rw (drop-cons xs i d h, e) at (r .rest))

@@ -1,3 +1,4 @@
 pub mod Sums
 pub mod Tests
 pub mod Tables
+pub mod Splices

@@ -19,7 +19,8 @@ use Rattle.pyramid.specs.Generations.{Generation, coded, rebuiltFrom, ou
 use Rattle.pyramid.specs.Accuracy.{distance, LevelsWithin, Accuracy}
 use Rattle.pyramid.proofs.Sizes.{last-zero}
 use Rattle.pyramid.proofs.Within.{NearAt, within}
-use Rattle.pyramid.proofs.Refusals.{Accepted, first-none, accepted-coding, leaves-new}
+use Rattle.pyramid.specs.Accepted.{Accepted}
+use Rattle.pyramid.proofs.Refusals.{first-none, accepted-coding, leaves-new}
 use Rattle.pyramid.proofs.Buffers.{length-raster, raster-at, by-place, read-stack}
 
 -- ---- the clamp brings a value nearer to every byte

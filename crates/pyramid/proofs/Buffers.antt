@@ -3,7 +3,7 @@ use mathlib.Core.Path.{_≡_, refl, sym, ap, _∙_, subst}
 use mathlib.Core.Bool.{Bool}
 use mathlib.Core.List.{List, [], _++_, append-assoc, append-nil}
 use Prim.Native.Nat.{ℕ, zero, suc, _+_, _-_, _*_, _/_, _%_, _≤_, _<_}
-use native.Mathlib.Nat.{zero-mul, suc-mul, mul-le-mul-right, not-suc-le-zero, div-add-mod', mod-lt, div-lt-iff-lt-mul}
+use native.Mathlib.Nat.{zero-mul, suc-mul, mul-le-mul, mul-le-mul-right, not-suc-le-zero, div-add-mod', mod-lt, div-lt-iff-lt-mul}
 use native.Mathlib.Decide.{decLt, decLe}
 use native.Mathlib.Omega.{arith}
 use lib.Dec.{T}
@@ -13,9 +13,10 @@ use lib.Seq.{getD-append-add}
 use Rattle.mathematics.specs.Tests.{all}
 use Rattle.mathematics.specs.Tables.{tabulate}
 use Rattle.mathematics.proofs.Tests.{all-append, all-front, all-back}
-use Rattle.mathematics.proofs.Tables.{length-tabulate, getD-tabulate, all-tabulate, tabulate-all}
+use Rattle.mathematics.proofs.Tables.{length-tabulate, getD-tabulate, tabulate-same, all-tabulate, tabulate-all}
 use Rattle.pyramid.specs.declared.Settings.{Settings}
 use Rattle.pyramid.specs.Sizes.{Level, columnsAt, rowsAt, nodesAt, nodesTo, total}
+use Rattle.pyramid.specs.Rows.{Source}
 use Rattle.pyramid.specs.Buffers.{raster, levelRaster, stack, allLevels, start, readLevels}
 use Rattle.pyramid.proofs.Sizes.{nodesTo-mono}
 
@@ -23,6 +24,17 @@ use Rattle.pyramid.proofs.Sizes.{nodesTo-mono}
 
 pub inside : {columns rows i j : ℕ} → i < columns → j < rows → j * columns + i < rows * columns
 inside {columns} {rows} {i} {j} h k = omega (arith, mul-le-mul-right columns k, suc-mul j columns)
+
+-- a row of a level, and of one that a buffer holds
+pub row-inside : (columns : ℕ) {rows y : ℕ} → y < rows → y * columns + columns ≤ rows * columns
+row-inside columns {rows} {y} h = omega (arith, mul-le-mul-right columns h, suc-mul y columns)
+
+pub level-small : {columns rows : ℕ} → columns ≤ 129 → rows ≤ 129 → rows * columns ≤ 16641
+level-small h k = omega (arith, mul-le-mul k h)
+
+pub source-row : {least e columns rows : ℕ} {buffer : List ℤ} → Source least e columns rows buffer → (y : ℕ) → y < rows
+    → (y * columns + columns ≤ length buffer) × (length buffer ≤ 16641)
+source-row {columns} s y h = rw (s .filled) (row-inside columns h, level-small (s .wide-most) (s .high-most))
 
 module _ {A : Type 0} where
   pub length-raster : (columns rows : ℕ) (f : ℕ → ℕ → A) → length (raster columns rows f) ≡ rows * columns
@@ -53,6 +65,12 @@ module _ {A : Type 0} where
 
   pub raster-at : (columns rows : ℕ) (f : ℕ → ℕ → A) (d : A) (i j : ℕ) → i < columns → j < rows → getD (raster columns rows f) (j * columns + i) d ≡ f i j
   raster-at columns rows f d i j h k = rw append-nil at (raster-node columns rows f [] d i j h k)
+
+  pub raster-same : (columns rows : ℕ) (f g : ℕ → ℕ → A) → ((i j : ℕ) → i < columns → j < rows → f i j ≡ g i j) → raster columns rows f ≡ raster columns rows g
+  unfolding raster
+  raster-same columns zero f g h = refl
+  raster-same columns (suc r) f g h =
+      rw (raster-same columns r f g (λ i j hi hj. h i j hi (omega arith)), tabulate-same columns (λ i. f i r) (λ i. g i r) (λ i hi. h i r hi (omega arith)))
 
 -- what holds at each column and row holds at each place below their product
 pub by-place : (columns rows : ℕ) (P : ℕ → Type 0) → 0 < columns → ((i j : ℕ) → i < columns → j < rows → P (j * columns + i)) → (p : ℕ) → p < rows * columns → P p
@@ -87,6 +105,10 @@ module _ (s : Settings) where
     length-stack zero = length-raster _ _ _
     length-stack (suc n) = simp (length-append, length-raster, length-stack n)
 
+    pub length-all : length (allLevels s f) ≡ total s
+    unfolding total
+    length-all = length-stack (s .depth)
+
     -- the first of the levels
     here : (l a b i j : ℕ) (rest : List ℤ) → a ≡ b → i < columnsAt s l → j < rowsAt s l
         → getD (levelRaster s f l ++ rest) (a - b + (j * columnsAt s l + i)) (pos 0) ≡ f l i j
@@ -94,7 +116,7 @@ module _ (s : Settings) where
         let e : a - b + (j * columnsAt s l + i) ≡ j * columnsAt s l + i = omega arith in
         rw e (raster-node (columnsAt s l) (rowsAt s l) (f l) rest (pos 0) i j hi hj)
 
-    stack-node : (n l i j : ℕ) (rest : List ℤ) → l ≤ n → i < columnsAt s l → j < rowsAt s l
+    pub stack-node : (n l i j : ℕ) (rest : List ℤ) → l ≤ n → i < columnsAt s l → j < rowsAt s l
         → getD (stack s f n ++ rest) (nodesTo s n - nodesTo s l + (j * columnsAt s l + i)) (pos 0) ≡ f l i j
     unfolding stack nodesTo
     stack-node zero zero i j rest hl hi hj = here zero (nodesTo s 0) (nodesTo s 0) i j rest refl hi hj
@@ -115,6 +137,13 @@ module _ (s : Settings) where
     pub read-stack : (l i j : ℕ) (rest : List ℤ) → l ≤ s .depth → i < columnsAt s l → j < rowsAt s l → readLevels s (allLevels s f ++ rest) l i j ≡ f l i j
     unfolding readLevels start total
     read-stack l i j rest hl hi hj = stack-node (s .depth) l i j rest hl hi hj
+
+  -- functions that agree at the nodes have the same levels
+  pub stack-same : (f g : ℕ → Level) (n : ℕ) → ((l i j : ℕ) → l ≤ n → i < columnsAt s l → j < rowsAt s l → f l i j ≡ g l i j) → stack s f n ≡ stack s g n
+  unfolding stack
+  stack-same f g zero h = raster-same (columnsAt s 0) (rowsAt s 0) (f 0) (g 0) (λ i j. h 0 i j (omega arith))
+  stack-same f g (suc n) h =
+      rw (raster-same (columnsAt s (suc n)) (rowsAt s (suc n)) (f (suc n)) (g (suc n)) (λ i j. h (suc n) i j (omega arith)), stack-same f g n (λ l i j hl. h l i j (omega arith)))
 
   module _ (test : ℤ → Bool) (f : ℕ → Level) where
     pub all-stack : (n : ℕ) → ((l i j : ℕ) → l ≤ n → i < columnsAt s l → j < rowsAt s l → T (test (f l i j))) → T (all test (stack s f n))

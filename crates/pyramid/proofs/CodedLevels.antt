@@ -9,15 +9,16 @@ use lib.Dec.{T, leb, le→leb}
 use lib.IntN.{ℤ, natAbs}
 use lib.ListN.{length}
 use Rattle.pyramid.specs.declared.Settings.{Settings}
-use Rattle.pyramid.specs.Sizes.{columnsAt, rowsAt, total}
+use Rattle.pyramid.specs.Sizes.{columnsAt, rowsAt}
 use Rattle.pyramid.specs.Pyramid.{index}
 use Rattle.pyramid.specs.Rebuilding.{valueOf}
 use Rattle.pyramid.specs.Buffers.{Bytes, pixels, allLevels, readLevels}
 use Rattle.pyramid.specs.Refusals.{unless, first, limit, settingsRefusal, buffersRefusal, valuesOk, codingRefusal}
 use Rattle.pyramid.specs.Calls.{coding, rebuilding}
 use Rattle.pyramid.specs.Ranges.{CodingRanges}
-use Rattle.pyramid.proofs.Refusals.{Accepted, first-none, accepted-coding, rebuilding-lengths, leaves-new}
-use Rattle.pyramid.proofs.Buffers.{length-stack, read-stack, all-stack}
+use Rattle.pyramid.specs.Accepted.{Accepted}
+use Rattle.pyramid.proofs.Refusals.{first-none, accepted-coding, rebuilding-lengths, leaves-new}
+use Rattle.pyramid.proofs.Buffers.{length-all, read-stack, all-stack}
 use Rattle.pyramid.proofs.Ranges.{coding-ranges}
 
 -- the numbers that the lengths of buffers can give
@@ -58,8 +59,7 @@ module _ (s : Settings) (picture : List ℕ) (levels work : List ℤ) (bytes : B
       (λ l i j hl hi hj. rw (read-left l i j hl hi hj) (le→leb _ limit (ranges .values l hl i j hi hj)))
 
   pub coded-length : length left ≡ length levels
-  unfolding total
-  coded-length = ap length left-is ∙ length-stack s (index s (pixels (s .columns) picture)) (s .depth) ∙ sym (call .sized .levels-is)
+  coded-length = ap length left-is ∙ length-all s (index s (pixels (s .columns) picture)) ∙ sym (call .sized .levels-is)
 
   module _ (target : List ℕ) (targetWork : List ℤ) where
     pub rebuilding-coded : rebuilding s left target targetWork .answer ≡ buffersRefusal s (length target) (length levels) (length targetWork)

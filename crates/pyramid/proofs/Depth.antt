@@ -1,6 +1,6 @@
 -- The deepest depth is the largest lawful one, and trailing-zero counts give it. Assumes nothing.
 use mathlib.Core.Path.{_≡_, refl, sym, ap, _∙_, subst}
-use mathlib.Core.Bool.{Bool, not}
+use mathlib.Core.Bool.{Bool, not, _&&_}
 use Prim.Native.Nat.{ℕ, zero, suc, _+_, _-_, _*_, _/_, _%_, _^_, _≤_, min}
 use native.Mathlib.Nat.{mod-one, le-of-suc-le-suc, not-suc-le-zero}
 use native.Mathlib.Decide.{decLe}
@@ -10,8 +10,8 @@ use borrow.Author.Tests.{ne-eqb}
 use lib.Count.{trailingZeros, under}
 use lib.Dec.{T, leb, eqb, leb·zero, leb·suc-zero, leb·suc-suc, leb→le, le→leb, T-not}
 use lib.Pow.{mod-pow-add}
-use Rattle.mathematics.proofs.Tests.{both, both-of, cond-elim}
-use Rattle.pyramid.specs.Settings.{divides}
+use Rattle.mathematics.proofs.Tests.{both, both-of, cond-elim, same-test}
+use Rattle.pyramid.specs.Settings.{depthOk, divides}
 use Rattle.pyramid.specs.Depth.{largest, allows, deepest}
 
 -- ---- a trailing-zero count is a test of divisibility
@@ -105,3 +105,14 @@ allowed-below c r n h =
     let d : Deepest c r (deepest c r) = deepest-rule c r in
     let (a, b) = allows-counts c r (deepest c r) (omega (arith, d .most)) (d .allowed) in
     counts-allow c r n (omega (arith, d .most)) (omega arith) (omega arith)
+
+-- so that one comparison with the deepest tests a depth and both sides
+pub deepest-test : (c r n : ℕ) → leb n (deepest c r) ≡ (depthOk n && (divides n c && divides n r))
+unfolding depthOk allows
+deepest-test c r n =
+    let d : Deepest c r (deepest c r) = deepest-rule c r in
+    same-test (leb n (deepest c r)) (leb n 6 && allows c r n)
+    (λ t.
+    let h : n ≤ deepest c r = leb→le n (deepest c r) t in
+    both-of (leb n 6) (allows c r n) (le→leb n 6 (omega (arith, d .most))) (allowed-below c r n h))
+    (λ t. let (a, b) = both (leb n 6) (allows c r n) t in le→leb n (deepest c r) (d .largest-of n (leb→le n 6 a) b))

@@ -1,33 +1,12 @@
--- What lawful settings are, as facts: from the tests that the refusals make, and back. Assumes nothing.
-use mathlib.Core.Path.{_≡_}
+-- Settings that pass the tests are lawful. Assumes nothing.
 use mathlib.Core.Bool.{_&&_}
 use Prim.Native.Nat.{ℕ, _-_, _%_, _^_, _≤_}
 use native.Mathlib.Omega.{arith}
 use lib.Dec.{T, leb, eqb, leb→le, eqb→eq, le→leb}
 use Rattle.mathematics.proofs.Tests.{both, then, below-at}
 use Rattle.pyramid.specs.declared.Settings.{Settings}
+use Rattle.pyramid.specs.Lawful.{Side, Bin, Lawful}
 use Rattle.pyramid.specs.Settings.{sideOk, depthOk, divides, kernelOk, bin, slotOk, sizeOk, binsOk}
-
--- one side of a picture that a depth suits
-pub record Side (side depth : ℕ) : Type 0 where
-  pub least : 2 ≤ side
-  pub most : side ≤ 129
-  pub whole : (side - 1) % 2 ^ depth ≡ 0
-
-pub record Kernel (k : ℕ) : Type 0 where
-  pub least : 3 ≤ k
-  pub most : k ≤ 6
-
-pub record Bin (n : ℕ) : Type 0 where
-  pub least : 1 ≤ n
-  pub most : n ≤ 255
-
-pub record Lawful (s : Settings) : Type 0 where
-  pub deep : s .depth ≤ 6
-  pub across : Side (s .columns) (s .depth)
-  pub along : Side (s .rows) (s .depth)
-  pub kernel : Kernel (s .kernel)
-  pub binned : (l : ℕ) → l ≤ s .depth → Bin (bin s l)
 
 side-law : (side depth : ℕ) → T (sideOk side) → T (divides depth side) → Side side depth
 unfolding sideOk divides

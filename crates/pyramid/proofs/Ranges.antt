@@ -25,7 +25,7 @@ use Rattle.pyramid.specs.Buffers.{Bytes, pixels, readLevels}
 use Rattle.pyramid.specs.Bound.{magnified, tolerance}
 use Rattle.pyramid.specs.Refusals.{limit, valuesOk}
 use Rattle.pyramid.specs.Ranges.{EachNode, ReduceSums, ExpandSums, CodingRanges, RebuildingRanges, Fits32}
-use Rattle.pyramid.proofs.Lawful.{Kernel, Bin, Lawful}
+use Rattle.pyramid.specs.Lawful.{Kernel, Bin, Lawful}
 use Rattle.pyramid.proofs.Sizes.{last-suc, last-least}
 use Rattle.pyramid.proofs.Weights.{weight-size, even-size, reach-most, hundredths-most}
 use Rattle.pyramid.proofs.Windows.{window-sums}
@@ -40,7 +40,7 @@ unfoldable pub spreadTo : ℕ → ℕ
 spreadTo zero = 128
 spreadTo (suc l) = spread (spreadTo l)
 
-most-magnified : {k : ℕ} → Kernel k → (e : ℕ) → magnified k e ≤ (196 * e + 99) / 100
+pub most-magnified : {k : ℕ} → Kernel k → (e : ℕ) → magnified k e ≤ (196 * e + 99) / 100
 unfolding magnified
 most-magnified h e = let m = mul-le-mul-right e (hundredths-most h) in omega arith
 
@@ -61,7 +61,7 @@ height-room d h = leb→le (height d) (2 ^ 19) (below-at 7 (λ d. leb (height d)
 
 module _ (s : Settings) (law : Lawful s) where
   -- EXPAND of a level that is near a constant
-  near-constant : (l : ℕ) → suc l ≤ s .depth → (e : ℕ) (u : Level) (c : ℤ) → NearAt s law (suc l) e u (λ i j. c)
+  pub near-constant : (l : ℕ) → suc l ≤ s .depth → (e : ℕ) (u : Level) (c : ℤ) → NearAt s law (suc l) e u (λ i j. c)
       → NearAt s law l ((196 * e + 99) / 100) (expanded s l u) (λ i j. c)
   near-constant l hl e u c close i j hi hj =
       near-more (most-magnified (law .kernel) e)
@@ -70,7 +70,7 @@ module _ (s : Settings) (law : Lawful s) where
 
   -- ---- averages, differences and values of a legal picture
 
-  abbrev Legal : Level → Type 0
+  abbrev pub Legal : Level → Type 0
   Legal p = NearAt s law 0 128 p (λ i j. pos 127)
 
   module _ (p : Level) (legal : Legal p) where
@@ -140,9 +140,9 @@ module _ (s : Settings) (law : Lawful s) where
   unfolding valueOf
   least-value l m b = rw (abs-*ℤ m (pos (bin s l))) (omega (arith, mul-le-mul-left (natAbs m) (b .least)))
 
-  pub coding-ranges : (picture : List ℕ) → Bytes picture → CodingRanges s (pixels (s .columns) picture)
-  unfolding pixels
-  coding-ranges picture bytes = record {
+  -- of any level 0 whose values at the nodes are those of bytes
+  pub ranges-of : (p : Level) → Legal p → CodingRanges s p
+  ranges-of p legal = record {
     averages = λ l hl. each l (small-average p legal l hl) limit (omega arith);
     differences = λ l hl. each l (small-difference p legal (s .depth - l) l (omega arith)) limit (omega arith);
     values = λ l hl. each l (small-value p legal l hl) limit (omega arith);
@@ -150,12 +150,14 @@ module _ (s : Settings) (law : Lawful s) where
     reduceSums = λ l hl. reduce-sums l hl (average s p l) limit (wider l (small-average p legal l (omega arith)) limit (omega arith));
     expandSums = λ l hl. expand-sums l hl (average s p (suc l)) limit (wider (suc l) (small-average p legal (suc l) hl) limit (omega arith));
   }
-    where
-      p : Level
-      p = pixels (s .columns) picture
 
-      legal : Legal p
-      legal i j hi hj = let h = bytes (j * s .columns + i) in pos-near (omega arith) (omega arith)
+  module _ (picture : List ℕ) (bytes : Bytes picture) where
+    pub pixels-legal : Legal (pixels (s .columns) picture)
+    unfolding pixels
+    pixels-legal i j hi hj = let h = bytes (j * s .columns + i) in pos-near (omega arith) (omega arith)
+
+    pub coding-ranges : CodingRanges s (pixels (s .columns) picture)
+    coding-ranges = ranges-of (pixels (s .columns) picture) pixels-legal
 
   pub rebuilding-ranges : (levels : List ℤ) → T (valuesOk s levels) → RebuildingRanges s (readLevels s levels)
   unfolding valuesOk

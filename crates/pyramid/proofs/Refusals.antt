@@ -1,8 +1,8 @@
 -- What an accepted call says of its arguments, and what is left in a buffer. Assumes nothing.
 use mathlib.Core.Path.{_≡_, refl}
 use mathlib.Core.Bool.{Bool, true, false}
-use mathlib.Core.List.{List, [], _∷_}
-use Prim.Native.Nat.{ℕ, zero, suc, _*_, _≤_}
+use mathlib.Core.List.{List, [], _∷_, _++_}
+use Prim.Native.Nat.{ℕ, zero, suc, _*_}
 use native.Mathlib.Omega.{arith}
 use lib.Dec.{T, leb, eqb, leb→le, eqb→eq}
 use lib.IntN.{ℤ}
@@ -12,7 +12,9 @@ use Rattle.pyramid.specs.Settings.{sizeOk, kernelOk, binsOk}
 use Rattle.pyramid.specs.Sizes.{total}
 use Rattle.pyramid.specs.Refusals.{unless, first, settingsRefusal, buffersRefusal, valuesOk, codingRefusal, rebuildingRefusal}
 use Rattle.pyramid.specs.Calls.{leaves}
-use Rattle.pyramid.proofs.Lawful.{Lawful, lawful}
+use Rattle.pyramid.specs.Accepted.{Sized, Accepted}
+use Rattle.pyramid.specs.Lawful.{Lawful}
+use Rattle.pyramid.proofs.Lawful.{lawful}
 
 pub first-none : (x : ℕ) (later : List ℕ) → first (x ∷ later) ≡ 0 → (x ≡ 0) × (first later ≡ 0)
 unfolding first
@@ -22,6 +24,24 @@ first-none (suc n) later e = absurd (omega arith)
 pub first-skip : (x : ℕ) (later : List ℕ) → x ≡ 0 → first (x ∷ later) ≡ first later
 unfolding first
 first-skip x later e = rw e
+
+pub first-stop : (x : ℕ) (later : List ℕ) → (x ≡ 0 → ⊥) → first (x ∷ later) ≡ x
+unfolding first
+first-stop zero later refused = absurd (refused refl)
+first-stop (suc n) later refused = refl
+
+-- what is looked for first, and what after it
+pub first-earlier : (xs later : List ℕ) → (first xs ≡ 0 → ⊥) → first (xs ++ later) ≡ first xs
+unfolding first
+first-earlier [] later refused = absurd (refused refl)
+first-earlier (zero ∷ xs) later refused = first-earlier xs later refused
+first-earlier (suc n ∷ xs) later refused = refl
+
+pub first-later : (xs later : List ℕ) → first xs ≡ 0 → first (xs ++ later) ≡ first later
+unfolding first
+first-later [] later e = refl
+first-later (zero ∷ xs) later e = first-later xs later e
+first-later (suc n ∷ xs) later e = absurd (omega arith)
 
 only : (x : ℕ) → first (x ∷ 0 ∷ []) ≡ x
 unfolding first
@@ -46,12 +66,7 @@ module _ (s : Settings) where
       let (kernel, e₃) = first-none _ _ e₂ in
       lawful s (unless-none (sizeOk s) 0 size) (unless-none (kernelOk (s .kernel)) 1 kernel) (unless-none (binsOk s) 2 (first-none _ _ e₃ .0))
 
-  pub record Sized (picture levels work : ℕ) : Type 0 where
-    pub picture-is : picture ≡ s .rows * s .columns
-    pub levels-is : levels ≡ total s
-    pub work-least : total s ≤ work
-
-  accepted-buffers : (picture levels work : ℕ) → buffersRefusal s picture levels work ≡ 0 → Sized picture levels work
+  accepted-buffers : (picture levels work : ℕ) → buffersRefusal s picture levels work ≡ 0 → Sized s picture levels work
   unfolding buffersRefusal
   accepted-buffers picture levels work e =
       let (five, e₆) = first-none _ _ e in
@@ -62,18 +77,14 @@ module _ (s : Settings) where
         work-least = leb→le (total s) work (unless-none (leb (total s) work) 6 (first-none _ _ e₇ .0));
       }
 
-  pub record Accepted (picture : List ℕ) (levels work : List ℤ) : Type 0 where
-    pub law : Lawful s
-    pub sized : Sized (length picture) (length levels) (length work)
-
-  pub accepted-coding : (picture : List ℕ) (levels work : List ℤ) → codingRefusal s picture levels work ≡ 0 → Accepted picture levels work
+  pub accepted-coding : (picture : List ℕ) (levels work : List ℤ) → codingRefusal s picture levels work ≡ 0 → Accepted s picture levels work
   unfolding codingRefusal
   accepted-coding picture levels work e =
       let (settings, e₅) = first-none _ _ e in
       record { law = accepted-settings settings; sized = accepted-buffers (length picture) (length levels) (length work) (first-none _ _ e₅ .0) }
 
   pub accepted-rebuilding : (levels : List ℤ) (picture : List ℕ) (work : List ℤ) → rebuildingRefusal s levels picture work ≡ 0
-      → Accepted picture levels work × T (valuesOk s levels)
+      → Accepted s picture levels work × T (valuesOk s levels)
   unfolding rebuildingRefusal
   accepted-rebuilding levels picture work e =
       let (settings, e₅) = first-none _ _ e in
@@ -81,6 +92,18 @@ module _ (s : Settings) where
         record { law = accepted-settings settings; sized = accepted-buffers (length picture) (length levels) (length work) buffers },
         unless-none (valuesOk s levels) 10 (first-none _ _ e₁₁ .0),
       )
+
+  -- rebuilding is refused as coding is, and else for its levels' values
+  module _ (levels : List ℤ) (picture : List ℕ) (work : List ℤ) where
+    pub rebuilding-refused : (codingRefusal s picture levels work ≡ 0 → ⊥) → rebuildingRefusal s levels picture work ≡ codingRefusal s picture levels work
+    unfolding codingRefusal rebuildingRefusal
+    rebuilding-refused refused =
+        first-earlier (settingsRefusal s ∷ buffersRefusal s (length picture) (length levels) (length work) ∷ []) (unless (valuesOk s levels) 11 ∷ []) refused
+
+    pub rebuilding-values : codingRefusal s picture levels work ≡ 0 → rebuildingRefusal s levels picture work ≡ first (unless (valuesOk s levels) 11 ∷ [])
+    unfolding codingRefusal rebuildingRefusal
+    rebuilding-values e =
+        first-later (settingsRefusal s ∷ buffersRefusal s (length picture) (length levels) (length work) ∷ []) (unless (valuesOk s levels) 11 ∷ []) e
 
   -- rebuilding of levels whose values are in range, under lawful settings, is refused for its buffers' lengths alone
   pub rebuilding-lengths : (levels : List ℤ) (picture : List ℕ) (work : List ℤ) → settingsRefusal s ≡ 0 → T (valuesOk s levels)
@@ -95,3 +118,8 @@ leaves-new answer new old e = rw e
 pub leaves-old : {A : Type 0} (number : ℕ) (new old : A) → leaves (suc number) new old ≡ old
 unfolding leaves
 leaves-old number new old = refl
+
+pub leaves-kept : {A : Type 0} (answer : ℕ) (new old : A) → (answer ≡ 0 → ⊥) → leaves answer new old ≡ old
+unfolding leaves
+leaves-kept zero new old refused = absurd (refused refl)
+leaves-kept (suc number) new old refused = refl

@@ -2,19 +2,22 @@
 -- EXPAND takes at even and at odd columns. Assumes nothing.
 use mathlib.Core.Path.{_≡_, sym, ap, fun-ext}
 use mathlib.Core.Bool.{Bool, false, cond}
-use Prim.Native.Nat.{ℕ, _+_, _-_, _*_, _%_, _≤_}
+use Prim.Native.Nat.{ℕ, _+_, _-_, _*_, _%_, _≤_, _<_}
 use native.Mathlib.Nat.{mod-add-mod}
 use native.Mathlib.Omega.{arith}
 use lib.Dec.{T, leb, eqb, leb→le, eqb→eq}
 use lib.IntN.{ℤ, pos, negsuc, natAbs}
+use lib.ListN.{getD}
+use mathlib.Core.List.{[]}
 use Rattle.mathematics.specs.Tests.{allBelow}
 use Rattle.mathematics.specs.Sums.{sum}
 use Rattle.mathematics.proofs.Tests.{below-at, between-at}
 use Rattle.mathematics.proofs.Sums.{total}
 use Rattle.pyramid.specs.Weights.{weights, fromCentre, weight}
 use Rattle.pyramid.specs.Steps.{evenWeight}
+use Rattle.pyramid.specs.Rows.{Within}
 use Rattle.pyramid.specs.Bound.{hundredths}
-use Rattle.pyramid.proofs.Lawful.{Kernel}
+use Rattle.pyramid.specs.Lawful.{Kernel}
 
 -- a test of the four kernels holds at each lawful one
 at-kernel : (test : ℕ → Bool) → T (allBelow 4 (λ n. test (3 + n))) → {k : ℕ} → Kernel k → T (test k)
@@ -34,6 +37,26 @@ is-eq (negsuc m) n t = absurd t
 abbrev pub size : (ℕ → ℤ) → ℕ
 size a = total 5 (λ t. natAbs (a t))
 
+-- ---- one weight
+
+-- the table's entry for a distance from the centre
+abbrev pub entry : ℕ → ℕ → ℤ
+unfolding weights
+entry k d = getD (getD weights (k - 3) []) d (pos 0)
+
+pub weight-entry : (k d : ℕ) → entry k d ≡ weight k (2 + d)
+unfolding weight weights
+weight-entry k d = let e : d ≡ fromCentre (2 + d) = omega arith in ap (λ (x : ℕ). entry k x) e
+
+-- at most 12, 7 and 2 for distance 0, 1, 2
+pub weight-within : {k : ℕ} → Kernel k → (d : ℕ) → d < 3 → Within (12 - 5 * d) (weight k (2 + d))
+weight-within {k} h d l = record {
+  small =
+      leb→le (natAbs (weight k (2 + d))) (12 - 5 * d)
+      (below-at 3 (λ d. leb (natAbs (weight k (2 + d))) (12 - 5 * d))
+      (at-kernel (λ k. allBelow 3 (λ d. leb (natAbs (weight k (2 + d))) (12 - 5 * d))) (unfold allBelow weight weights in tt) h) d l);
+}
+
 -- ---- all taps
 
 pub weight-symmetric : (k t : ℕ) → t ≤ 4 → weight k (4 - t) ≡ weight k t
@@ -49,7 +72,7 @@ weight-size {k} h = leb→le (size (weight k)) 24 (at-kernel (λ k. leb (size (w
 -- ---- the taps of EXPAND
 
 -- they depend on the column's parity alone
-even-parity : (k i : ℕ) → evenWeight k i ≡ evenWeight k (i % 2)
+pub even-parity : (k i : ℕ) → evenWeight k i ≡ evenWeight k (i % 2)
 unfolding evenWeight
 even-parity k i = fun-ext (λ t. ap (λ (m : ℕ). cond (eqb m 0) (weight k t) (pos 0)) (sym (mod-add-mod i 2 t)))
 

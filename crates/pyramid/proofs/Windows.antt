@@ -1,4 +1,4 @@
--- Laws of the window: rows before columns, a constant level, how far apart windows over two levels are, and the size of every partial sum.
+-- Laws of the window: rows before columns, columns before rows, a constant level, how far apart windows over two levels are, and the size of every partial sum.
 -- Assumes nothing.
 use mathlib.Core.Path.{_≡_, ap, _∙_, subst, fun-ext}
 use Prim.Native.Nat.{ℕ, _*_, _≤_, _<_}
@@ -6,12 +6,13 @@ use native.Mathlib.Nat.{mul-assoc, mul-le-mul, mul-le-mul-right, le-trans, le-re
 use native.Mathlib.Omega.{arith}
 use lib.IntN.{ℤ, natAbs, _*ℤ_, *ℤ-comm}
 use Rattle.mathematics.specs.Sums.{sum}
-use Rattle.mathematics.proofs.Integers.{ints, all₃, _⊖_}
-use Rattle.mathematics.proofs.IntegerLaws.{abs-*ℤ, abs-product}
+use Rattle.mathematics.proofs.Integers.{ints, all₃}
+use Rattle.mathematics.proofs.IntegerLaws.{*ℤ-assoc, abs-*ℤ, abs-product}
 use Rattle.mathematics.proofs.Distance.{Near, near-mul}
-use Rattle.mathematics.proofs.Sums.{total, mul-total, total-mul, total-mono, near-sum, abs-of-sum, sum-scale}
+use Rattle.mathematics.proofs.Sums.{total, mul-total, total-mul, total-mono, near-sum, abs-of-sum, sum-scale, sum-swap}
 use Rattle.pyramid.specs.Sizes.{Level}
 use Rattle.pyramid.specs.Steps.{window, rowSum}
+use Rattle.pyramid.specs.Rows.{columnSum}
 use Rattle.pyramid.specs.Ranges.{WindowSums}
 use Rattle.pyramid.proofs.Weights.{size}
 
@@ -21,12 +22,25 @@ factor = all₃ _ (λ p n q m r s. simp ints (omega arith))
 turn : (a b c : ℤ) → (c *ℤ a) *ℤ b ≡ (a *ℤ b) *ℤ c
 turn = all₃ _ (λ p n q m r s. simp ints (omega arith))
 
+-- the first of five taps, of values within e of 0
+pub taps-small : (w v : ℕ → ℤ) (m e : ℕ) → m ≤ 5 → ((t : ℕ) → t < m → natAbs (v t) ≤ e) → natAbs (sum m (λ t. w t *ℤ v t)) ≤ size w * e
+taps-small w v m e h small =
+    le-trans (abs-of-sum m (λ t. w t *ℤ v t) (λ t. natAbs (w t) * e) (λ t ht. abs-product (natAbs (w t)) e (w t) (v t) (le-refl (natAbs (w t))) (small t ht)))
+    (rw (total-mul e m (λ t. natAbs (w t))) (mul-le-mul-right e (total-mono m 5 (λ t. natAbs (w t)) h)))
+
 module _ (a b : ℕ → ℤ) (x y : ℕ → ℕ) where
   -- along the rows first, then down the columns
   pub window-rows : (g : Level) → window a b x y g ≡ sum 5 (λ n. b n *ℤ rowSum a x y g n)
   unfolding window
   window-rows g =
       ap (sum 5) (fun-ext (λ n. ap (sum 5) (fun-ext (λ m. factor (a m) (b n) (g (x m) (y n)))) ∙ sum-scale (b n) 5 (λ m. a m *ℤ g (x m) (y n))))
+
+  -- down the columns first, then along the rows
+  pub window-columns : (g : Level) → window a b x y g ≡ sum 5 (λ m. a m *ℤ columnSum b y g (x m))
+  unfolding window columnSum
+  window-columns g =
+      sum-swap 5 5 (λ n m. a m *ℤ b n *ℤ g (x m) (y n))
+      ∙ ap (sum 5) (fun-ext (λ m. ap (sum 5) (fun-ext (λ n. *ℤ-assoc (a m) (b n) (g (x m) (y n)))) ∙ sum-scale (a m) 5 (λ n. b n *ℤ g (x m) (y n))))
 
   -- a level that is c everywhere
   pub window-constant : (c : ℤ) → window a b x y (λ i j. c) ≡ (sum 5 a *ℤ sum 5 b) *ℤ c
@@ -61,19 +75,11 @@ module _ (a b : ℕ → ℤ) (x y : ℕ → ℕ) where
         (near-mul (a m *ℤ b n) (close m n hm hn)))))
 
   module _ (g : Level) (e : ℕ) (small : (m n : ℕ) → m < 5 → n < 5 → natAbs (g (x m) (y n)) ≤ e) where
-    -- the sizes of the first weights of five, times e
-    first : (w : ℕ → ℤ) (m f : ℕ) → m ≤ 5 → total m (λ t. natAbs (w t) * f) ≤ size w * f
-    first w m f h = rw (total-mul f m (λ t. natAbs (w t))) (mul-le-mul-right f (total-mono m 5 (λ t. natAbs (w t)) h))
-
     row : (m n : ℕ) → m ≤ 5 → n < 5 → natAbs (sum m (λ t. a t *ℤ g (x t) (y n))) ≤ size a * e
-    row m n hm hn =
-        le-trans (abs-of-sum m (λ t. a t *ℤ g (x t) (y n)) (λ t. natAbs (a t) * e)
-        (λ t ht. abs-product (natAbs (a t)) e (a t) (g (x t) (y n)) (le-refl (natAbs (a t))) (small t n (omega arith) hn))) (first a m e hm)
+    row m n hm hn = taps-small a (λ t. g (x t) (y n)) m e hm (λ t ht. small t n (omega arith) hn)
 
     column : (n : ℕ) → n ≤ 5 → natAbs (sum n (λ t. b t *ℤ rowSum a x y g t)) ≤ size b * (size a * e)
-    column n hn =
-        le-trans (abs-of-sum n (λ t. b t *ℤ rowSum a x y g t) (λ t. natAbs (b t) * (size a * e))
-        (λ t ht. abs-product (natAbs (b t)) (size a * e) (b t) (rowSum a x y g t) (le-refl (natAbs (b t))) (row 5 t (le-refl 5) (omega arith)))) (first b n (size a * e) hn)
+    column n hn = taps-small b (rowSum a x y g) n (size a * e) hn (λ t ht. row 5 t (le-refl 5) (omega arith))
 
     -- every partial sum, for weights whose sizes together are at most c
     pub window-sums : (c : ℕ) → size a ≤ c → size b ≤ c → WindowSums a b x y g (c * e) (c * (c * e))

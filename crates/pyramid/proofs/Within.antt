@@ -11,7 +11,7 @@ use Rattle.pyramid.specs.Sizes.{Level, last}
 use Rattle.pyramid.specs.Pyramid.{expanded, indexOf, average, difference, index}
 use Rattle.pyramid.specs.Rebuilding.{valueOf, rebuild}
 use Rattle.pyramid.specs.Bound.{magnified, tolerance, bound}
-use Rattle.pyramid.proofs.Lawful.{Bin, Lawful}
+use Rattle.pyramid.specs.Lawful.{Bin, Lawful}
 use Rattle.pyramid.proofs.Sizes.{last-suc, last-least}
 use Rattle.pyramid.proofs.Steps.{NearLevel, near-expand}
 

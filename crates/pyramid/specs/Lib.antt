@@ -1,4 +1,5 @@
 pub mod Settings
+pub mod Lawful
 pub mod Sizes
 pub mod Weights
 pub mod Edge
@@ -9,8 +10,12 @@ pub mod Bound
 pub mod Depth
 pub mod Buffers
 pub mod Refusals
+pub mod Rows
+pub mod Accepted
 pub mod Calls
+pub mod Answers
 pub mod Ranges
+pub mod Layers
 pub mod Generations
 pub mod Accuracy
 pub mod WorkedPieces

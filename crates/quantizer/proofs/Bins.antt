@@ -7,7 +7,7 @@ use mathlib.Core.Bool.{Bool, _&&_}
 use lib.Dec.{T, ltb, ltb→lt}
 use lib.IntN.{ℤ, pos, natAbs, _+ℤ_, _-ℤ_, _*ℤ_}
 use lib.Signed.{_≤ℤ_, _<ℤ_, leZ, ltZ}
-use Rattle.mathematics.proofs.Integers.{ints, all₂, all₃, _⊖_}
+use Rattle.mathematics.proofs.Integers.{ints, all₂, all₃}
 use Rattle.mathematics.proofs.IntegerLaws.{≤ℤ-antisym}
 use Rattle.mathematics.proofs.Distance.{Near}
 use Rattle.mathematics.proofs.Tests.{both}

@@ -10,7 +10,7 @@ use lib.Signed.{_≤ℤ_, _<ℤ_, quotZ, remZ, mag-rem}
 use mir.Syntax.{Width, w32}
 use mir.Val.{SFits, hbits, toZ, ofZ}
 use mir.Facts.{toZ-pos}
-use Rattle.mathematics.proofs.Integers.{ints, all₁, all₂, all₃, all₄, all₅, _⊖_}
+use Rattle.mathematics.proofs.Integers.{ints, all₁, all₂, all₃, all₄, all₅}
 use Rattle.mathematics.proofs.IntegerLaws.{*ℤ-cancel, fits-by}
 use Rattle.quantizer.specs.Division.{Floor, Divisor}
 

@@ -11,8 +11,6 @@ use Rattle.quantizer.specs.Division.{Floor}
 use Rattle.quantizer.proofs.Division.{quotient-fits, remainder-fits, sum-fits, bits-positive, floor-down, floor-up, floor-same, floor-fits}
 use Rattle.quantizer.proofs.divide.Statement.{statement}
 use Rattle.quantizer.proofs.divide.Tie as tie
-use Rattle.quantizer.proofs.divide.Reads as reads
-use Rattle.quantizer.proofs.divide.Lts as lts
 
 ruleset ranges = (toZ-ofZ, sfits-of, quotient-fits, remainder-fits, sum-fits, bits-positive)
 

@@ -5,7 +5,7 @@ use native.Mathlib.Nat.{div-add-mod', mod-lt, lt-of-mul-lt-mul-right, le-of-suc-
 use native.Mathlib.Omega.{arith}
 use lib.IntN.{ℤ, pos, negsuc, _+ℤ_, _*ℤ_}
 use lib.Signed.{_≤ℤ_, _<ℤ_, shrZ}
-use Rattle.mathematics.proofs.Integers.{ints, all₂, all₃, _⊖_}
+use Rattle.mathematics.proofs.Integers.{ints, all₂, all₃}
 use Rattle.quantizer.specs.Rounding.{roundDiv, Rounded}
 
 -- 2qD ≤ 2S + D < 2(q + 1)D

@@ -1,0 +1,103 @@
+// Whether settings are lawful (document 01, "Settings").
+use crate::Settings;
+ghost use mathlib.Core.Path.{_≡_};
+ghost use mathlib.Core.Bool.{_&&_};
+ghost use Prim.Native.Nat.{_≤_, _<_, min};
+ghost use Rattle.pyramid.specs.Settings.{sideOk, kernelOk, slotOk, sizeOk, binsOk};
+ghost use Rattle.pyramid.specs.Depth.{deepest};
+ghost use Rattle.pyramid.specs.Refusals.{settingsRefusal};
+
+fn lesser(a: u32, b: u32) -> u32
+    ensures { λ r. ⌜ r ≡ min a b ⌝ }
+{
+    if a <= b { a } else { b }
+}
+
+fn side_ok(side: u16) -> bool
+    ensures { λ r. ⌜ r ≡ sideOk side ⌝ }
+{
+    if 2 <= side {
+        return side <= 129;
+    }
+    false
+}
+
+pub fn sides_ok(columns: u16, rows: u16) -> bool
+    ensures { λ r. ⌜ r ≡ (sideOk columns && sideOk rows) ⌝ }
+{
+    if side_ok(columns) {
+        return side_ok(rows);
+    }
+    false
+}
+
+// The fewer of the trailing zero bits of columns - 1 and rows - 1, but at most 6.
+pub fn deepest(columns: u16, rows: u16) -> u16
+    requires { ⌜ (1 ≤ columns) × (1 ≤ rows) ⌝ }
+    ensures { λ r. ⌜ r ≡ deepest columns rows ⌝ }
+{
+    let c = u16::trailing_zeros(columns - 1);
+    let r = u16::trailing_zeros(rows - 1);
+    let d = lesser(lesser(c, r), 6);
+    d as u16
+}
+
+fn size_ok(s: Settings) -> bool
+    ensures { λ r. ⌜ r ≡ sizeOk s ⌝ }
+{
+    if sides_ok(s.columns, s.rows) {
+        return s.depth <= deepest(s.columns, s.rows);
+    }
+    false
+}
+
+fn kernel_ok(kernel: u16) -> bool
+    ensures { λ r. ⌜ r ≡ kernelOk kernel ⌝ }
+{
+    if 3 <= kernel {
+        return kernel <= 6;
+    }
+    false
+}
+
+fn slot_ok(depth: u16, level: u16, bin: u16) -> bool
+    ensures { λ r. ⌜ r ≡ slotOk depth level bin ⌝ }
+{
+    if level <= depth {
+        if 1 <= bin {
+            return bin <= 255;
+        }
+        return false;
+    }
+    bin == 0
+}
+
+fn bins_ok(s: Settings) -> bool
+    ensures { λ r. ⌜ r ≡ binsOk s ⌝ }
+{
+    let bins = s.bins;
+    let mut l: u16 = 0;
+    while l < 7 {
+        if !slot_ok(s.depth, l, bins[l as usize]) {
+            return false;
+        }
+        l += 1;
+    }
+    true
+}
+
+// The number of the first rule that the settings break, or 0.
+pub fn settings_refusal(s: Settings) -> u16
+    ensures { λ r. ⌜ r ≡ settingsRefusal s ⌝ }
+{
+    if !size_ok(s) {
+        return 1;
+    }
+    if !kernel_ok(s.kernel) {
+        return 2;
+    }
+    if !bins_ok(s) {
+        return 3;
+    }
+    0
+}
