@@ -1,0 +1,135 @@
+// Calls over filled buffers. A call that is refused must leave every place of every lent buffer as it was.
+use crate::buffers;
+use pyramid::Settings;
+
+// The lengths of the buffers to lend: a picture of at most 48 pixels, at most 72 nodes.
+pub struct Lengths {
+    pub picture: usize,
+    pub levels: usize,
+    pub work: usize,
+}
+
+// An index put at a place of the level buffer before a rebuilding.
+pub struct Put {
+    pub place: usize,
+    pub index: i16,
+}
+
+fn is_only_start_replaced(work: &[i32], nodes: usize) -> bool {
+    if buffers::is_work_replaced(work, nodes) {
+        return buffers::is_work_kept(work, nodes);
+    }
+    false
+}
+
+fn check_coding(
+    s: Settings,
+    answer: u16,
+    nodes: usize,
+    picture: &mut [u8],
+    levels: &mut [i16],
+    work: &mut [i32],
+) -> bool {
+    buffers::fill_picture(picture);
+    buffers::fill_levels(levels);
+    buffers::fill_work(work);
+    if pyramid::coding(s, picture, levels, work) != answer {
+        return false;
+    }
+    if !buffers::is_picture_kept(picture) {
+        return false;
+    }
+    if answer == 0 {
+        return is_only_start_replaced(work, nodes);
+    }
+    if !buffers::are_levels_kept(levels) {
+        return false;
+    }
+    buffers::is_work_kept(work, 0)
+}
+
+fn check_rebuilding(
+    s: Settings,
+    answer: u16,
+    nodes: usize,
+    put: Put,
+    picture: &mut [u8],
+    levels: &mut [i16],
+    work: &mut [i32],
+) -> bool {
+    buffers::fill_picture(picture);
+    buffers::fill_levels(levels);
+    buffers::fill_work(work);
+    let replaced = buffers::exchange(levels, put.place, put.index);
+    if pyramid::rebuilding(s, levels, picture, work) != answer {
+        return false;
+    }
+    if buffers::exchange(levels, put.place, replaced) != put.index {
+        return false;
+    }
+    if !buffers::are_levels_kept(levels) {
+        return false;
+    }
+    if answer == 0 {
+        return is_only_start_replaced(work, nodes);
+    }
+    if !buffers::is_picture_kept(picture) {
+        return false;
+    }
+    buffers::is_work_kept(work, 0)
+}
+
+// Whether a coding with buffers of these lengths gives the answer. An accepted one replaces just the first `nodes` places of the work buffer.
+pub fn coding_gives(s: Settings, n: Lengths, answer: u16, nodes: usize) -> bool {
+    let mut picture: [u8; 48] = [0; 48];
+    let mut levels: [i16; 72] = [0; 72];
+    let mut work: [i32; 72] = [0; 72];
+    let p = n.picture;
+    let l = n.levels;
+    let w = n.work;
+    if 48 < p {
+        return false;
+    }
+    if 72 < l {
+        return false;
+    }
+    if 72 < w {
+        return false;
+    }
+    check_coding(
+        s,
+        answer,
+        nodes,
+        &mut picture[0..p],
+        &mut levels[0..l],
+        &mut work[0..w],
+    )
+}
+
+// The same of a rebuilding, with an index put into the level buffer.
+pub fn rebuilding_gives(s: Settings, n: Lengths, put: Put, answer: u16, nodes: usize) -> bool {
+    let mut picture: [u8; 48] = [0; 48];
+    let mut levels: [i16; 72] = [0; 72];
+    let mut work: [i32; 72] = [0; 72];
+    let p = n.picture;
+    let l = n.levels;
+    let w = n.work;
+    if 48 < p {
+        return false;
+    }
+    if 72 < l {
+        return false;
+    }
+    if 72 < w {
+        return false;
+    }
+    check_rebuilding(
+        s,
+        answer,
+        nodes,
+        put,
+        &mut picture[0..p],
+        &mut levels[0..l],
+        &mut work[0..w],
+    )
+}
