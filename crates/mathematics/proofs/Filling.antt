@@ -5,10 +5,10 @@ use Prim.Native.Nat.{ℕ, _+_, _-_, _≤_, _<_}
 use native.Mathlib.Numerals.{add-one}
 use native.Mathlib.Omega.{arith}
 use lib.ListN.{length, set, length-set}
-use Rattle.mathematics.specs.Splices.{splice, part}
+use Rattle.mathematics.specs.Splices.{splice}
 use Rattle.mathematics.specs.Tables.{tabulate}
 use Rattle.mathematics.proofs.Tables.{length-tabulate, tabulate-same, tabulate-add}
-use Rattle.mathematics.proofs.Splices.{splice-nil, splice-set, splice-append, splice-over, part-after, part-before}
+use Rattle.mathematics.proofs.Splices.{splice-nil, splice-set, splice-append, splice-over}
 
 module _ {ℓ} {A : Type ℓ} where
   -- ---- a loop that writes f 0, f 1, .., f (n - 1) from `at` on: l became w, with i of them written
@@ -50,13 +50,6 @@ module _ {ℓ} {A : Type ℓ} where
 
     pub filling-from : {v : List A} {j : ℕ} → Filling at n f l v j → i ≤ j → Filling at n f w v j
     filling-from {v} {j} q h = record { bound = q .bound; long = q .long ∙ sym (r .long); is = q .is ∙ sym (over j h) }
-
-    -- a part after all that is written, and one before it, is as it was
-    pub filling-after : (f′ t : ℕ) → at + n ≤ f′ → part f′ t w ≡ part f′ t l
-    filling-after f′ t k = rw (r .is) (part-after at (tabulate i f) l (rw long-tab (omega arith)) f′ t (rw long-tab (omega arith)))
-
-    pub filling-before : (f′ t : ℕ) → f′ ≤ t → t ≤ at → part f′ t w ≡ part f′ t l
-    filling-before f′ t k m = rw (r .is) (part-before at (tabulate i f) l (rw long-tab (omega arith)) f′ t k m)
 
   -- a second loop goes on where the first stopped
   module _ {at n m : ℕ} {f g : ℕ → A} {l w w′ : List A} {i j : ℕ} (r : Filling at n f l w i) (room : at + n ≤ length l) where

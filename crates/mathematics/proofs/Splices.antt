@@ -1,9 +1,9 @@
 -- Laws of parts and splices: lengths, elements, parts before, at and after a splice, and splices next to and over one another.
 -- Assumes nothing.
-use mathlib.Core.Path.{_≡_, refl, sym, ap, _∙_, subst}
+use mathlib.Core.Path.{_≡_, sym, ap, _∙_, subst}
 use mathlib.Core.List.{List, [], _∷_, _++_, append-assoc, append-nil}
 use Prim.Native.Nat.{ℕ, zero, suc, _+_, _-_, _≤_, _<_}
-use native.Mathlib.Nat.{add-zero, zero-add, suc-add, add-assoc, add-sub-cancel-left}
+use native.Mathlib.Nat.{add-zero, zero-add, suc-add, add-assoc}
 use native.Mathlib.Numerals.{add-one}
 use native.Mathlib.Omega.{arith}
 use lib.ListN.{length, getD, take, drop, set, length-append, length-drop, take-append-drop, List·getD-append, drop-of-length-le}
@@ -68,13 +68,6 @@ module _ {ℓ} {A : Type ℓ} where
     pub splice-set : (v : A) → at + length xs < length l → set (splice at xs l) (at + length xs) v ≡ splice at (xs ++ (v ∷ [])) l
     splice-set v h = set-splice-one (splice at xs l) (at + length xs) v (omega (arith, length-splice at xs l fits)) ∙ splice-append (v ∷ [])
 
-    -- the piece itself
-    pub part-splice : part at (at + length xs) (splice at xs l) ≡ xs
-    unfolding splice
-    part-splice =
-        let t : length (take at l) ≡ at = length-take-le at l (omega arith) in
-        rw (add-sub-cancel-left, drop-at (take at l) (xs ++ drop (at + length xs) l) at t) (take-at xs (drop (at + length xs) l) (length xs) refl)
-
     -- a part before the piece, and one after it
     pub part-before : (f t : ℕ) → f ≤ t → t ≤ at → part f t (splice at xs l) ≡ part f t l
     part-before f t h k =
@@ -85,11 +78,6 @@ module _ {ℓ} {A : Type ℓ} where
     part-after f t h =
         let e : at + length xs + (f - (at + length xs)) ≡ f = omega arith in
         ap (take (t - f)) (rw (← e) (drop-splice (f - (at + length xs))))
-
-  -- a part that was lent as `&mut l[at..e]` and has come back as xs
-  pub lent-splice : (at k : ℕ) (xs l : List A) → length xs ≡ k → take at l ++ (xs ++ drop k (drop at l)) ≡ splice at xs l
-  unfolding splice
-  lent-splice at k xs l e = rw (drop-drop, e)
 
   -- a piece over all of another
   pub splice-over : (a : ℕ) (ys : List A) (at : ℕ) (xs l : List A) → at + length xs ≤ length l → a ≤ at → at + length xs ≤ a + length ys → splice a ys (splice at xs l) ≡ splice a ys l
@@ -104,11 +92,6 @@ module _ {ℓ} {A : Type ℓ} where
   splice-prepend at xs ys l h =
       let t : length (take (at + length xs) l) ≡ at + length xs = length-take-le (at + length xs) l (omega arith) in
       rw (take-splice (at + length xs) ys l h at (omega arith), drop-at (take (at + length xs) l) (ys ++ drop (at + length xs + length ys) l) (at + length xs) t) (simp (length-append, append-assoc, add-assoc))
-
-  -- the first of two pieces
-  pub part-front : (at : ℕ) (xs ys l : List A) → at + length xs + length ys ≤ length l → part at (at + length xs) (splice at (xs ++ ys) l) ≡ xs
-  part-front at xs ys l h =
-      rw (← splice-prepend at xs ys l h) (part-splice at xs (splice (at + length xs) ys l) (omega (arith, length-splice (at + length xs) ys l h)))
 
   -- what is there, put where it is
   pub splice-part : (f t : ℕ) (l : List A) → f ≤ t → t ≤ length l → splice f (part f t l) l ≡ l

@@ -10,7 +10,7 @@ use Rattle.mathematics.specs.Splices.{splice, part}
 use Rattle.mathematics.proofs.Tables.{tabulate-same}
 use Rattle.pyramid.specs.declared.Settings.{Settings}
 use Rattle.pyramid.specs.Lawful.{Lawful}
-use Rattle.pyramid.specs.Sizes.{Level, columnsAt, rowsAt, total}
+use Rattle.pyramid.specs.Sizes.{Level, columnsAt, rowsAt, nodesAt, total}
 use Rattle.pyramid.specs.Steps.{expand}
 use Rattle.pyramid.specs.Pyramid.{expanded}
 use Rattle.pyramid.specs.Buffers.{start, readLevels}
@@ -34,22 +34,20 @@ module _ (s : Settings) (l j : ℕ) (work row : List ℤ) where
   pub top-row : s .depth ≤ l → splice 0 (tabulate (columnsAt s l) (λ i. pos 0)) row ≡ made
   top-row h = ap (λ (xs : List ℤ). splice 0 xs row) (tabulate-same (columnsAt s l) _ _ (λ i hi. sym (predicted-top s l (readLevels s work) h i j)))
 
-  -- of a start, rows and columns that the code was given for the level above
+  -- of a start, an end, rows and columns that the code was given for the level above
   pub below-row : Lawful s → total s ≤ length work → l < s .depth → j < rowsAt s l
-      → {at rows columns : ℕ} → at ≡ start s (suc l) → rows ≡ rowsAt s (suc l) → columns ≡ columnsAt s (suc l)
-      → splice 0 (tabulate (2 * (columns - 1) + 1) (λ i. expand (s .kernel) (columns - 1) (rows - 1) (asLevel columns (part at (at + rows * columns) work)) i j)) row ≡ made
-  below-row law long h hj place along across =
-      rw (place, along, across, twice-wide s law work long l h)
+      → {at to rows columns : ℕ} → at ≡ start s (suc l) → to ≡ start s (suc l) + nodesAt s (suc l) → rows ≡ rowsAt s (suc l) → columns ≡ columnsAt s (suc l)
+      → splice 0 (tabulate (2 * (columns - 1) + 1) (λ i. expand (s .kernel) (columns - 1) (rows - 1) (asLevel columns (part at to work)) i j)) row ≡ made
+  below-row law long h hj place end along across =
+      rw (place, end, along, across, twice-wide s law work long l h)
       (ap (λ (xs : List ℤ). splice 0 xs row)
       (tabulate-same (columnsAt s l) _ _ (λ i hi. expand-read s law work long l h i j hi hj ∙ sym (predicted-below s l (readLevels s work) h i j))))
 
--- what `expand_row` asks, of such a start, rows and columns
+-- what `expand_row` asks, of such numbers
 module _ (s : Settings) (l j : ℕ) (work : List ℤ) (law : Lawful s) (long : total s ≤ length work) (h : l < s .depth)
-    {at rows columns : ℕ} (place : at ≡ start s (suc l)) (along : rows ≡ rowsAt s (suc l)) (across : columns ≡ columnsAt s (suc l)) where
-  pub below-source : (e : ℕ) → LevelSmall s (suc l) e work → Source 2 e columns rows (part at (at + rows * columns) work)
-  below-source e f = rw (place, along, across) (expandable s law work long l h e f)
+    {at to rows columns : ℕ} (place : at ≡ start s (suc l)) (end : to ≡ start s (suc l) + nodesAt s (suc l)) (along : rows ≡ rowsAt s (suc l)) (across : columns ≡ columnsAt s (suc l)) where
+  pub below-source : (e : ℕ) → LevelSmall s (suc l) e work → Source 2 e columns rows (part at to work)
+  below-source e f = rw (place, end, along, across) (expandable s law work long l h e f)
 
   pub below-sizes : (n : ℕ) → j < rowsAt s l → columnsAt s l ≤ n → (j ≤ 2 * (rows - 1)) × (2 * (columns - 1) + 1 ≤ n)
   below-sizes n hj hn = rw (along, across) (omega (arith, twice-wide s law work long l h, twice-high s law work long l h))
-
--- ---- a prediction is small

@@ -115,10 +115,6 @@ pub leaves-new : {A : Type 0} (answer : ℕ) (new old : A) → answer ≡ 0 → 
 unfolding leaves
 leaves-new answer new old e = rw e
 
-pub leaves-old : {A : Type 0} (number : ℕ) (new old : A) → leaves (suc number) new old ≡ old
-unfolding leaves
-leaves-old number new old = refl
-
 pub leaves-kept : {A : Type 0} (answer : ℕ) (new old : A) → (answer ≡ 0 → ⊥) → leaves answer new old ≡ old
 unfolding leaves
 leaves-kept zero new old refused = absurd (refused refl)

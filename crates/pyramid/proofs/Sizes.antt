@@ -3,7 +3,6 @@ use mathlib.Core.Path.{_≡_, sym, ap, _∙_}
 use mathlib.Core.List.{[]}
 use Prim.Native.Nat.{ℕ, zero, suc, _+_, _-_, _/_, _%_, _^_, _≤_, _<_}
 use native.Mathlib.Nat.{div-one, div-le-self, div-div-eq-div-mul, pow-suc, le-div-iff-mul-le, one-le-pow, pow-le-pow-right, le-of-dvd, dvd-of-mod-eq-zero, add-zero, add-suc, le-refl, mul-le-mul, zero-div}
-use native.Mathlib.Numerals.{add-one}
 use native.Mathlib.Omega.{arith}
 use lib.Pow.{mod-mod-pow, field}
 use lib.Dec.{lit≤}
@@ -24,9 +23,6 @@ last-suc side l = ap (λ (m : ℕ). (side - 1) / m) (pow-suc 2 l) ∙ sym (div-d
 -- the same of the number of columns (rows), which is one more than the last
 pub count-zero : (side : ℕ) → 1 ≤ side → side ≡ last side 0 + 1
 count-zero side h = omega (arith, last-zero side)
-
-pub count-next : (side l c : ℕ) → c ≡ last side l + 1 → (c - 1) / 2 + 1 ≡ last side (l + 1) + 1
-count-next side l c e = rw (add-one l) (omega (arith, last-suc side l))
 
 pub last-most : (side l : ℕ) → last side l ≤ side - 1
 unfolding last

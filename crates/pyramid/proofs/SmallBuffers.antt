@@ -8,7 +8,7 @@ use lib.IntN.{ℤ, pos}
 use lib.ListN.{length, getD, take, drop, length-take, List·getD-append, List·getD-eq-default, replicate, length-replicate, getD-replicate}
 use lib.Seq.{getD-append-add, getD-take, getD-drop}
 use Rattle.mathematics.specs.Tables.{tabulate}
-use Rattle.mathematics.specs.Splices.{splice, part}
+use Rattle.mathematics.specs.Splices.{splice}
 use Rattle.mathematics.proofs.Tables.{length-tabulate, getD-tabulate}
 use Rattle.pyramid.specs.Sizes.{Level}
 use Rattle.pyramid.specs.Buffers.{raster}
@@ -43,9 +43,6 @@ module _ {e : ℕ} where
 
   pub small-drop : (n : ℕ) (l : List ℤ) → Small e l → Small e (drop n l)
   small-drop n l f p = rw (getD-drop n l p (pos 0)) (f (n + p))
-
-  pub small-part : (a b : ℕ) (l : List ℤ) → Small e l → Small e (part a b l)
-  small-part a b l f = small-take (b - a) (drop a l) (small-drop a l f)
 
   pub small-tabulate : (n : ℕ) (f : ℕ → ℤ) → ((i : ℕ) → i < n → Within e (f i)) → Small e (tabulate n f)
   small-tabulate n f h = by-length (tabulate n f) (λ p k. let q : p < n = omega (arith, length-tabulate n f) in rw (getD-tabulate n f (pos 0) p q) (h p q))

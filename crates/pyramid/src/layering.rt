@@ -59,21 +59,20 @@ fn zero_row(row: &mut [i32], n: usize)
     }
 }
 
-// What row j of level l is predicted to be: EXPAND of the level above it, or 0 at the top.
-fn predict_row(s: Settings, l: u16, j: usize, work: &[i32], row: &mut [i32])
+// What row j of level l, which starts at `from`, is predicted to be: EXPAND of the level above it, or 0 at the top.
+fn predict_row(s: Settings, l: u16, from: usize, j: usize, work: &[i32], row: &mut [i32])
     requires { ⌜ Lawful s ⌝ }
-    requires { ⌜ (l ≤ s .depth) × (j < rowsAt s l) × (total s ≤ length (now work)) × (columnsAt s l ≤ length (now row)) ⌝ }
+    requires { ⌜ (l ≤ s .depth) × (j < rowsAt s l) × (total s ≤ length (now work)) × (columnsAt s l ≤ length (now row)) × (from ≡ start s l) ⌝ }
     requires { ⌜ LevelSmall s (suc l) 524288 (now work) ⌝ }
     ensures { λ _. ⌜ now (row .exit) ≡ splice 0 (tabulate (columnsAt s l) (λ i. predicted s (s .depth - l) l (readLevels s (now (work .entry))) i j)) (now (row .entry)) ⌝ }
 {
     if l == s.depth {
         zero_row(row, counting::columns_at(s, l));
     } else {
-        let above = counting::start_of(s, l + 1);
         let columns = counting::columns_at(s, l + 1);
         let rows = counting::rows_at(s, l + 1);
-        let to = above + rows * columns;
-        expanding::expand_row(&work[above..to], columns, rows, j, s.kernel, row);
+        let above = from - rows * columns;
+        expanding::expand_row(&work[above..from], columns, rows, j, s.kernel, row);
     }
 }
 
@@ -88,10 +87,11 @@ fn index_level(s: Settings, l: u16, work: &[i32], levels: &mut [i16])
     let columns = counting::columns_at(s, l);
     let rows = counting::rows_at(s, l);
     let mut row: [i32; 129] = [0; 129];
-    let mut at = counting::start_of(s, l);
+    let from = counting::start_of(s, l);
+    let mut at = from;
     let mut j = 0;
     while j < rows {
-        predict_row(s, l, j, work, &mut row);
+        predict_row(s, l, from, j, work, &mut row);
         let to = at + columns;
         copying::index_row(&work[at..to], &row, bin, levels, at);
         at = to;
@@ -124,10 +124,11 @@ fn value_level(s: Settings, l: u16, levels: &[i16], work: &mut [i32])
     let columns = counting::columns_at(s, l);
     let rows = counting::rows_at(s, l);
     let mut row: [i32; 129] = [0; 129];
-    let mut at = counting::start_of(s, l);
+    let from = counting::start_of(s, l);
+    let mut at = from;
     let mut j = 0;
     while j < rows {
-        predict_row(s, l, j, work, &mut row);
+        predict_row(s, l, from, j, work, &mut row);
         let to = at + columns;
         copying::value_row(&levels[at..to], &row, bin, work, at);
         at = to;

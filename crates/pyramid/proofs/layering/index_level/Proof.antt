@@ -28,10 +28,10 @@ record Going (s : Settings) (l : ℕ) (work levels₀ levels row : List ℤ) (at
   roomy : Roomy row
 
 abbrev Inv-loop : tie.InvT-loop
-Inv-loop s l work levels₀ bin columns rows row₀ at₀ j₀ levels row at j = Going s l work levels₀ levels row at j
+Inv-loop s l work levels₀ bin columns rows row₀ from at₀ j₀ levels row at j = Going s l work levels₀ levels row at j
 
 abbrev μ-loop : tie.MeasureT-loop
-μ-loop s l work levels₀ bin columns rows row₀ at₀ j₀ levels row at j = rows - j
+μ-loop s l work levels₀ bin columns rows row₀ from at₀ j₀ levels row at j = rows - j
 
 -- what holds at the loop's head
 module _ (l : tie.At-loop Inv-loop μ-loop) where
@@ -68,7 +68,7 @@ module _ (p : tie.After-predict-row Inv-loop μ-loop) where
   n = p .before .before
 
   abbrev made : List ℤ
-  made = p .predict-row .last .1 .1 .1 .1 .0
+  made = p .predict-row .last .1 .1 .1 .1 .1 .0
 
   made-roomy : Roomy made
   made-roomy =
@@ -100,7 +100,7 @@ predict-row-requires : tie.Need-predict-row-requires Inv-loop μ-loop
 predict-row-requires c κs =
     let i = c .before in
     let a = l i in
-    (t a .pre .0, ((level a .deep, turn i, level a .worked, roomy-columns (t a .args .s) (t a .pre .0) (t a .args .l) (a .loop .inv .roomy)), above-small (level a)))
+    (t a .pre .0, ((level a .deep, turn i, level a .worked, roomy-columns (t a .args .s) (t a .pre .0) (t a .args .l) (a .loop .inv .roomy), a .before .start-of .ensures .0), above-small (level a)))
 
 -- from where the row is there
 module _ (c : tie.After-row2 Inv-loop μ-loop) where

@@ -27,10 +27,10 @@ record Going (s : Settings) (l : ℕ) (levels work₀ work row : List ℤ) (at j
   roomy : Roomy row
 
 abbrev Inv-loop : tie.InvT-loop
-Inv-loop s l levels work₀ bin columns rows row₀ at₀ j₀ work row at j = Going s l levels work₀ work row at j
+Inv-loop s l levels work₀ bin columns rows row₀ from at₀ j₀ work row at j = Going s l levels work₀ work row at j
 
 abbrev μ-loop : tie.MeasureT-loop
-μ-loop s l levels work₀ bin columns rows row₀ at₀ j₀ work row at j = rows - j
+μ-loop s l levels work₀ bin columns rows row₀ from at₀ j₀ work row at j = rows - j
 
 -- what holds at the loop's head
 module _ (l : tie.At-loop Inv-loop μ-loop) where
@@ -70,7 +70,7 @@ module _ (p : tie.After-predict-row Inv-loop μ-loop) where
   n = p .before .before .before
 
   abbrev made : List ℤ
-  made = p .predict-row .last .1 .1 .1 .1 .0
+  made = p .predict-row .last .1 .1 .1 .1 .1 .0
 
   made-roomy : Roomy made
   made-roomy =
@@ -102,7 +102,7 @@ predict-row-requires : tie.Need-predict-row-requires Inv-loop μ-loop
 predict-row-requires c κs =
     let i = c .before .before in
     let a = l i in
-    (t a .pre .0, ((level a .deep, turn i, omega (arith, level a .worked, a .loop .inv .rendered .long), roomy-columns (t a .args .s) (t a .pre .0) (t a .args .l) (a .loop .inv .roomy)), above a))
+    (t a .pre .0, ((level a .deep, turn i, omega (arith, level a .worked, a .loop .inv .rendered .long), roomy-columns (t a .args .s) (t a .pre .0) (t a .args .l) (a .loop .inv .roomy), a .before .start-of .ensures .0), above a))
 
 add-to : tie.Need-add-to Inv-loop μ-loop
 add-to c =
