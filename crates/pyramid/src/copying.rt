@@ -75,7 +75,8 @@ pub fn value_row(indices: &[i16], predicted: &[i32], bin: u16, work: &mut [i32],
     let n = bin as i32;
     let mut i = 0;
     while i < indices.len() {
-        work[at + i] = indices[i] as i32 * n + predicted[i];
+        let value = indices[i] as i32 * n + predicted[i];
+        work[at + i] = value;
         i += 1;
     }
 }

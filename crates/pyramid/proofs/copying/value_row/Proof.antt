@@ -26,43 +26,43 @@ cast-n c = search needs
 loop-holds : tie.Need-loop-holds Inv-loop μ-loop
 loop-holds c = filling-start _ _ _ _
 
-mul-work : tie.Need-mul-work Inv-loop μ-loop
-mul-work c = search needs
+mul-value : tie.Need-mul-value Inv-loop μ-loop
+mul-value c = search needs
 
-shared-slice-copy-out-work : tie.Need-shared-slice-copy-out-work Inv-loop μ-loop
-shared-slice-copy-out-work c = search needs
+shared-slice-copy-out-value : tie.Need-shared-slice-copy-out-value Inv-loop μ-loop
+shared-slice-copy-out-value c = search needs
 
 -- the index is of 16 bits
-index : (c : tie.After-work Inv-loop μ-loop) → SFits w16 (getD (now (c .before .before .before .args .indices)) (c .before .before .loop .i) (pos 0))
-index c = sfits-of (c .work .given)
+index : (c : tie.After-value Inv-loop μ-loop) → SFits w16 (getD (now (c .before .before .before .args .indices)) (c .before .before .loop .i) (pos 0))
+index c = sfits-of (c .value .given)
 
-cast-work : tie.Need-cast-work Inv-loop μ-loop
-cast-work c = short-fits (index c)
+cast-value : tie.Need-cast-value Inv-loop μ-loop
+cast-value c = short-fits (index c)
 
-mul-work-2 : tie.Need-mul-work-2 Inv-loop μ-loop
-mul-work-2 c = value-fits (index c) (c .before .before .before .fits .bin)
+mul-value-2 : tie.Need-mul-value-2 Inv-loop μ-loop
+mul-value-2 c = value-fits (index c) (c .before .before .before .fits .bin)
 
-mul-work-3 : tie.Need-mul-work-3 Inv-loop μ-loop
-mul-work-3 c = search needs
+mul-value-3 : tie.Need-mul-value-3 Inv-loop μ-loop
+mul-value-3 c = search needs
 
-shared-slice-copy-out-work-2 : tie.Need-shared-slice-copy-out-work-2 Inv-loop μ-loop
-shared-slice-copy-out-work-2 c = search needs
+shared-slice-copy-out-value-2 : tie.Need-shared-slice-copy-out-value-2 Inv-loop μ-loop
+shared-slice-copy-out-value-2 c = search needs
 
-add-work : tie.Need-add-work Inv-loop μ-loop
-add-work c =
+add-value : tie.Need-add-value Inv-loop μ-loop
+add-value c =
     let l = c .before .before .before in
     let s = l .before in
     let i = l .loop .i in
     rebuilt-fits (index (c .before)) (s .fits .bin) (s .pre .1 .1 .at i (omega arith)) (s .pre .1 .0 i)
 
-add-t18 : tie.Need-add-t18 Inv-loop μ-loop
-add-t18 c = search needs
+add-value-2 : tie.Need-add-value-2 Inv-loop μ-loop
+add-value-2 c = search needs
 
-mul-t19 : tie.Need-mul-t19 Inv-loop μ-loop
-mul-t19 c = search needs
+mul-value-4 : tie.Need-mul-value-4 Inv-loop μ-loop
+mul-value-4 c = search needs
 
-slice-set-from-work : tie.Need-slice-set-from-work Inv-loop μ-loop
-slice-set-from-work c = search needs
+slice-set-from-value : tie.Need-slice-set-from-value Inv-loop μ-loop
+slice-set-from-value c = search needs
 
 add-i : tie.Need-add-i Inv-loop μ-loop
 add-i c = search needs
@@ -92,16 +92,16 @@ value-row-spec =
     μ-loop
     cast-n
     loop-holds
-    mul-work
-    shared-slice-copy-out-work
-    cast-work
-    mul-work-2
-    mul-work-3
-    shared-slice-copy-out-work-2
-    add-work
-    add-t18
-    mul-t19
-    slice-set-from-work
+    mul-value
+    shared-slice-copy-out-value
+    cast-value
+    mul-value-2
+    mul-value-3
+    shared-slice-copy-out-value-2
+    add-value
+    add-value-2
+    mul-value-4
+    slice-set-from-value
     add-i
     loop-less
     loop-again
