@@ -13,7 +13,7 @@ fn work_filler(i: usize) -> i32 {
     !((i % 251 + 100000000) as i32)
 }
 
-pub fn fill_picture(picture: &mut [u8]) {
+pub(crate) fn fill_picture(picture: &mut [u8]) {
     let mut i = 0;
     while i < picture.len() {
         picture[i] = pixel_filler(i);
@@ -21,7 +21,7 @@ pub fn fill_picture(picture: &mut [u8]) {
     }
 }
 
-pub fn fill_levels(levels: &mut [i16]) {
+pub(crate) fn fill_levels(levels: &mut [i16]) {
     let mut i = 0;
     while i < levels.len() {
         levels[i] = index_filler(i);
@@ -30,7 +30,7 @@ pub fn fill_levels(levels: &mut [i16]) {
 }
 
 // Puts an index at a place and answers what stood there. Where there is no such place, answers the index.
-pub fn exchange(levels: &mut [i16], place: usize, index: i16) -> i16 {
+pub(crate) fn exchange(levels: &mut [i16], place: usize, index: i16) -> i16 {
     if place < levels.len() {
         let old = levels[place];
         levels[place] = index;
@@ -39,7 +39,7 @@ pub fn exchange(levels: &mut [i16], place: usize, index: i16) -> i16 {
     index
 }
 
-pub fn fill_work(work: &mut [i32]) {
+pub(crate) fn fill_work(work: &mut [i32]) {
     let mut i = 0;
     while i < work.len() {
         work[i] = work_filler(i);
@@ -48,7 +48,7 @@ pub fn fill_work(work: &mut [i32]) {
 }
 
 // Whether every place holds its filler.
-pub fn is_picture_kept(picture: &[u8]) -> bool {
+pub(crate) fn is_picture_kept(picture: &[u8]) -> bool {
     let mut i = 0;
     while i < picture.len() {
         if picture[i] != pixel_filler(i) {
@@ -59,7 +59,7 @@ pub fn is_picture_kept(picture: &[u8]) -> bool {
     true
 }
 
-pub fn are_levels_kept(levels: &[i16]) -> bool {
+pub(crate) fn are_levels_kept(levels: &[i16]) -> bool {
     let mut i = 0;
     while i < levels.len() {
         if levels[i] != index_filler(i) {
@@ -71,7 +71,7 @@ pub fn are_levels_kept(levels: &[i16]) -> bool {
 }
 
 // The same of the places from `from` on.
-pub fn is_work_kept(work: &[i32], from: usize) -> bool {
+pub(crate) fn is_work_kept(work: &[i32], from: usize) -> bool {
     let mut i = from;
     while i < work.len() {
         if work[i] != work_filler(i) {
@@ -83,7 +83,7 @@ pub fn is_work_kept(work: &[i32], from: usize) -> bool {
 }
 
 // Whether none of the first n places holds its filler.
-pub fn is_work_replaced(work: &[i32], n: usize) -> bool {
+pub(crate) fn is_work_replaced(work: &[i32], n: usize) -> bool {
     let mut i = 0;
     while i < n {
         if work.len() <= i {
@@ -97,7 +97,7 @@ pub fn is_work_replaced(work: &[i32], n: usize) -> bool {
     true
 }
 
-pub fn are_levels(levels: &[i16], expected: &[i16]) -> bool {
+pub(crate) fn are_levels(levels: &[i16], expected: &[i16]) -> bool {
     if levels.len() != expected.len() {
         return false;
     }
@@ -112,7 +112,7 @@ pub fn are_levels(levels: &[i16], expected: &[i16]) -> bool {
 }
 
 // Whether the work buffer starts with the numbers expected.
-pub fn is_work(work: &[i32], expected: &[i32]) -> bool {
+pub(crate) fn is_work(work: &[i32], expected: &[i32]) -> bool {
     if work.len() < expected.len() {
         return false;
     }

@@ -3,14 +3,14 @@ use crate::buffers;
 use pyramid::Settings;
 
 // The lengths of the buffers to lend: a picture of at most 48 pixels, at most 72 nodes.
-pub struct Lengths {
+pub(crate) struct Lengths {
     pub picture: usize,
     pub levels: usize,
     pub work: usize,
 }
 
 // An index put at a place of the level buffer before a rebuilding.
-pub struct Put {
+pub(crate) struct Put {
     pub place: usize,
     pub index: i16,
 }
@@ -80,7 +80,7 @@ fn check_rebuilding(
 }
 
 // Whether a coding with buffers of these lengths gives the answer. An accepted one replaces just the first `nodes` places of the work buffer.
-pub fn coding_gives(s: Settings, n: Lengths, answer: u16, nodes: usize) -> bool {
+pub(crate) fn coding_gives(s: Settings, n: Lengths, answer: u16, nodes: usize) -> bool {
     let mut picture: [u8; 48] = [0; 48];
     let mut levels: [i16; 72] = [0; 72];
     let mut work: [i32; 72] = [0; 72];
@@ -107,7 +107,13 @@ pub fn coding_gives(s: Settings, n: Lengths, answer: u16, nodes: usize) -> bool 
 }
 
 // The same of a rebuilding, with an index put into the level buffer.
-pub fn rebuilding_gives(s: Settings, n: Lengths, put: Put, answer: u16, nodes: usize) -> bool {
+pub(crate) fn rebuilding_gives(
+    s: Settings,
+    n: Lengths,
+    put: Put,
+    answer: u16,
+    nodes: usize,
+) -> bool {
     let mut picture: [u8; 48] = [0; 48];
     let mut levels: [i16; 72] = [0; 72];
     let mut work: [i32; 72] = [0; 72];

@@ -180,7 +180,7 @@ fn put(faults: u32, variant: u32) -> Put {
 }
 
 // The 64 sets of the faults that coding looks for.
-pub fn coding(t: Tally) -> Tally {
+pub(crate) fn coding(t: Tally) -> Tally {
     let mut u = t;
     let mut i: u32 = 0;
     while i < 256 {
@@ -197,7 +197,7 @@ pub fn coding(t: Tally) -> Tally {
 }
 
 // The 128 sets of the faults that rebuilding looks for.
-pub fn rebuilding(t: Tally) -> Tally {
+pub(crate) fn rebuilding(t: Tally) -> Tally {
     let mut u = t;
     let mut i: u32 = 0;
     while i < 512 {

@@ -46,7 +46,7 @@ fn bounds_give(s: Settings, answer: u16) -> bool {
     are_slots(slots, zeros)
 }
 
-pub fn are_slots(slots: [u16; 7], expected: [u16; 7]) -> bool {
+pub(crate) fn are_slots(slots: [u16; 7], expected: [u16; 7]) -> bool {
     let mut i = 0;
     while i < 7 {
         if slots[i] != expected[i] {
@@ -58,7 +58,7 @@ pub fn are_slots(slots: [u16; 7], expected: [u16; 7]) -> bool {
 }
 
 // The answer of all four functions, with buffers of the lengths of the settings without the fault.
-pub fn answered(t: Tally, s: Settings, answer: u16) -> Tally {
+pub(crate) fn answered(t: Tally, s: Settings, answer: u16) -> Tally {
     let n = Lengths {
         picture: base::PIXELS,
         levels: base::NODES,
@@ -165,6 +165,6 @@ fn bins(t: Tally) -> Tally {
     u
 }
 
-pub fn all(t: Tally) -> Tally {
+pub(crate) fn all(t: Tally) -> Tally {
     bins(kernels(depths(rows(columns(t)))))
 }

@@ -22,7 +22,7 @@ fn answered(t: Tally, picture: usize, levels: usize, work: usize, answer: u16) -
     )
 }
 
-pub fn all(t: Tally) -> Tally {
+pub(crate) fn all(t: Tally) -> Tally {
     let mut u = answered(t, 45, 66, 66, 0);
     u = answered(u, 44, 66, 66, 5);
     u = answered(u, 46, 66, 66, 5);

@@ -58,7 +58,7 @@ fn piece_a_sizes(t: Tally) -> Tally {
     counted(u, faults::are_slots(slots, expected))
 }
 
-pub fn piece_a(t: Tally) -> Tally {
+pub(crate) fn piece_a(t: Tally) -> Tally {
     piece_a_sizes(piece_a_rebuilt(piece_a_coded(t)))
 }
 
@@ -82,7 +82,7 @@ fn smallest(t: Tally) -> Tally {
 }
 
 // C or R of 1 or 130; C = 4 with N = 1; the smallest picture.
-pub fn sizes(t: Tally) -> Tally {
+pub(crate) fn sizes(t: Tally) -> Tally {
     let one: [u16; 7] = [1, 0, 0, 0, 0, 0, 0];
     let mut u = faults::answered(t, base::settings(1, 3, 0, 4, one), 1);
     u = faults::answered(u, base::settings(130, 3, 0, 4, one), 1);
@@ -98,7 +98,7 @@ fn deepest(t: Tally, columns: u16, rows: u16, refusal: u16, depth: u16) -> Tally
     counted(u, d.depth == depth)
 }
 
-pub fn deepest_depths(t: Tally) -> Tally {
+pub(crate) fn deepest_depths(t: Tally) -> Tally {
     let mut u = deepest(t, 129, 129, 0, 6);
     u = deepest(u, 97, 97, 0, 5);
     u = deepest(u, 2, 129, 0, 0);
@@ -143,7 +143,7 @@ fn refused_index(t: Tally, place: usize, index: i16) -> Tally {
     counted(t, calling::rebuilding_gives(s, n, put, 11, 4))
 }
 
-pub fn index_limit(t: Tally) -> Tally {
+pub(crate) fn index_limit(t: Tally) -> Tally {
     let mut u = rebuilt_from(t, 16, 4080, 255);
     u = rebuilt_from(u, -16, -4080, 0);
     u = refused_index(u, 0, 17);

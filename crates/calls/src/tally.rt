@@ -2,13 +2,13 @@
 use libc::STDOUT_FILENO;
 
 // The checks made, how many failed, and the number of the first that failed, counted from 1.
-pub struct Tally {
+pub(crate) struct Tally {
     pub checks: u64,
     pub failed: u64,
     pub first: u64,
 }
 
-pub fn empty() -> Tally {
+pub(crate) fn empty() -> Tally {
     Tally {
         checks: 0,
         failed: 0,
@@ -21,7 +21,7 @@ fn next(n: u64) -> u64 {
 }
 
 // One more check.
-pub fn counted(t: Tally, passed: bool) -> Tally {
+pub(crate) fn counted(t: Tally, passed: bool) -> Tally {
     let mut u = t;
     u.checks = next(t.checks);
     if passed {
@@ -35,7 +35,7 @@ pub fn counted(t: Tally, passed: bool) -> Tally {
 }
 
 // The line of a group of checks.
-pub fn print(group: &[u8], t: Tally) {
+pub(crate) fn print(group: &[u8], t: Tally) {
     io::write_all(STDOUT_FILENO, group);
     io::write_all(STDOUT_FILENO, b": ");
     io::print_decimal(STDOUT_FILENO, t.checks);

@@ -10,9 +10,9 @@ use crate::reporting::difference;
 use crate::sizes;
 
 // The two kinds of files.
-pub const PYRAMID: u16 = 0;
+pub(crate) const PYRAMID: u16 = 0;
 
-pub const LEVELS: u16 = 1;
+pub(crate) const LEVELS: u16 = 1;
 
 fn check_next(
     kind: u16,
@@ -39,7 +39,7 @@ fn check_next(
 }
 
 // All cases to the end of the file. A file has fewer than a million.
-pub fn check_all(
+pub(crate) fn check_all(
     kind: u16,
     fd: i32,
     case: &mut [u8],

@@ -2,7 +2,7 @@
 // A place that either of the two does not have counts as different.
 use crate::decoding;
 
-pub fn pixels(bytes: &[u8], picture: &[u8], n: usize) -> usize {
+pub(crate) fn pixels(bytes: &[u8], picture: &[u8], n: usize) -> usize {
     let mut i = 0;
     while i < n {
         if bytes.len() <= i {
@@ -19,7 +19,7 @@ pub fn pixels(bytes: &[u8], picture: &[u8], n: usize) -> usize {
     n
 }
 
-pub fn indices(bytes: &[u8], levels: &[i16], n: usize) -> usize {
+pub(crate) fn indices(bytes: &[u8], levels: &[i16], n: usize) -> usize {
     let mut i = 0;
     while i < n {
         if bytes.len() / 2 <= i {
@@ -36,7 +36,7 @@ pub fn indices(bytes: &[u8], levels: &[i16], n: usize) -> usize {
     n
 }
 
-pub fn averages(bytes: &[u8], work: &[i32], n: usize) -> usize {
+pub(crate) fn averages(bytes: &[u8], work: &[i32], n: usize) -> usize {
     let mut i = 0;
     while i < n {
         if bytes.len() / 2 <= i {
@@ -53,7 +53,7 @@ pub fn averages(bytes: &[u8], work: &[i32], n: usize) -> usize {
     n
 }
 
-pub fn values(bytes: &[u8], work: &[i32], n: usize) -> usize {
+pub(crate) fn values(bytes: &[u8], work: &[i32], n: usize) -> usize {
     let mut i = 0;
     while i < n {
         if bytes.len() / 4 <= i {
@@ -89,7 +89,7 @@ fn bound(bytes: &[u8], levels: usize, slot: usize) -> u16 {
 }
 
 // Of all seven slots the first whose bound differs, or 7.
-pub fn bounds(bytes: &[u8], slots: [u16; 7], levels: usize) -> usize {
+pub(crate) fn bounds(bytes: &[u8], slots: [u16; 7], levels: usize) -> usize {
     let mut i = 0;
     while i < 7 {
         if slots[i] != bound(bytes, levels, i) {

@@ -1,12 +1,12 @@
 // Little-endian numbers and settings from bytes.
 use pyramid::Settings;
 
-pub fn unsigned16(low: u8, high: u8) -> u16 {
+pub(crate) fn unsigned16(low: u8, high: u8) -> u16 {
     low as u16 + 256 * high as u16
 }
 
 // Two's complement of 16 bits.
-pub fn signed16(low: u8, high: u8) -> i16 {
+pub(crate) fn signed16(low: u8, high: u8) -> i16 {
     let n = unsigned16(low, high);
     if n < 32768 {
         n as i16
@@ -16,7 +16,7 @@ pub fn signed16(low: u8, high: u8) -> i16 {
 }
 
 // Two's complement of 16 bits, as a 32-bit number.
-pub fn widened16(low: u8, high: u8) -> i32 {
+pub(crate) fn widened16(low: u8, high: u8) -> i32 {
     let n = unsigned16(low, high);
     if n < 32768 {
         n as i32
@@ -26,7 +26,7 @@ pub fn widened16(low: u8, high: u8) -> i32 {
 }
 
 // Two's complement of 32 bits, lowest byte first.
-pub fn signed32(a: u8, b: u8, c: u8, d: u8) -> i32 {
+pub(crate) fn signed32(a: u8, b: u8, c: u8, d: u8) -> i32 {
     let n = a as u32 + 256 * b as u32 + 65536 * c as u32 + 16777216 * d as u32;
     if n < 2147483648 {
         n as i32
@@ -36,7 +36,7 @@ pub fn signed32(a: u8, b: u8, c: u8, d: u8) -> i32 {
 }
 
 // C, R, N, k and the seven bins, slot 0 first.
-pub fn settings(head: &[u8; 22]) -> Settings {
+pub(crate) fn settings(head: &[u8; 22]) -> Settings {
     let bins = [
         unsigned16(head[8], head[9]),
         unsigned16(head[10], head[11]),
@@ -56,10 +56,10 @@ pub fn settings(head: &[u8; 22]) -> Settings {
 }
 
 // In place of a 16-bit number that is not there. No vector holds it.
-pub const MISSING: u16 = 65535;
+pub(crate) const MISSING: u16 = 65535;
 
 // The unsigned 16-bit number at a place in bytes.
-pub fn unsigned16_at(bytes: &[u8], at: usize) -> u16 {
+pub(crate) fn unsigned16_at(bytes: &[u8], at: usize) -> u16 {
     if at < bytes.len() {
         if at + 1 < bytes.len() {
             return unsigned16(bytes[at], bytes[at + 1]);

@@ -78,7 +78,7 @@ fn read_case(fd: i32, p: LevelsParts, bytes: &mut [u8], levels: &mut [i16]) -> u
 }
 
 // Reads a case and lends its checks the parts of the buffers that it takes.
-pub fn check_read(
+pub(crate) fn check_read(
     fd: i32,
     s: Settings,
     z: Sizes,

@@ -120,7 +120,7 @@ fn check_case(
 }
 
 // Reads a case and lends its checks the parts of the buffers that it takes.
-pub fn check_read(
+pub(crate) fn check_read(
     fd: i32,
     s: Settings,
     z: Sizes,

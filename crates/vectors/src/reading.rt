@@ -3,7 +3,7 @@ use crate::decoding;
 use crate::reporting;
 
 // Reads n bytes to the start of a buffer; false where the file ends before, or the buffer.
-pub fn read_exactly(fd: i32, bytes: &mut [u8], n: usize) -> bool {
+pub(crate) fn read_exactly(fd: i32, bytes: &mut [u8], n: usize) -> bool {
     if bytes.len() < n {
         return false;
     }
@@ -11,7 +11,7 @@ pub fn read_exactly(fd: i32, bytes: &mut [u8], n: usize) -> bool {
 }
 
 // Reads the settings of the next case. The answer is AGREES, or FILE_ENDS where no case is left, or CASE_CUT.
-pub fn read_head(fd: i32, head: &mut [u8]) -> u16 {
+pub(crate) fn read_head(fd: i32, head: &mut [u8]) -> u16 {
     let got = io::read_full(fd, head);
     if got == head.len() {
         return reporting::AGREES;
@@ -23,7 +23,7 @@ pub fn read_head(fd: i32, head: &mut [u8]) -> u16 {
 }
 
 // The bytes from a place on; none where there is no such place.
-pub fn rest(bytes: &[u8], from: usize) -> &[u8] {
+pub(crate) fn rest(bytes: &[u8], from: usize) -> &[u8] {
     if from <= bytes.len() {
         return &bytes[from..];
     }
@@ -31,7 +31,7 @@ pub fn rest(bytes: &[u8], from: usize) -> &[u8] {
 }
 
 // Indices from bytes, as many as both hold.
-pub fn load_indices(bytes: &[u8], levels: &mut [i16]) {
+pub(crate) fn load_indices(bytes: &[u8], levels: &mut [i16]) {
     let mut i = 0;
     while i < levels.len() {
         if bytes.len() / 2 <= i {

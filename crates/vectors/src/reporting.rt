@@ -1,49 +1,49 @@
 // What a case is found to be, and the count of cases and mismatches of a file.
 use libc::STDOUT_FILENO;
 
-pub const AGREES: u16 = 0;
+pub(crate) const AGREES: u16 = 0;
 
-pub const FILE_ENDS: u16 = 1;
+pub(crate) const FILE_ENDS: u16 = 1;
 
-pub const CASE_CUT: u16 = 2;
+pub(crate) const CASE_CUT: u16 = 2;
 
-pub const SETTINGS: u16 = 3;
+pub(crate) const SETTINGS: u16 = 3;
 
-pub const NODES: u16 = 4;
+pub(crate) const NODES: u16 = 4;
 
-pub const CODING_ANSWER: u16 = 5;
+pub(crate) const CODING_ANSWER: u16 = 5;
 
-pub const INDEX: u16 = 6;
+pub(crate) const INDEX: u16 = 6;
 
-pub const AVERAGE: u16 = 7;
+pub(crate) const AVERAGE: u16 = 7;
 
-pub const AFTER_AVERAGES: u16 = 8;
+pub(crate) const AFTER_AVERAGES: u16 = 8;
 
-pub const REBUILDING_ANSWER: u16 = 9;
+pub(crate) const REBUILDING_ANSWER: u16 = 9;
 
-pub const VALUE: u16 = 10;
+pub(crate) const VALUE: u16 = 10;
 
-pub const AFTER_VALUES: u16 = 11;
+pub(crate) const AFTER_VALUES: u16 = 11;
 
-pub const PIXEL: u16 = 12;
+pub(crate) const PIXEL: u16 = 12;
 
-pub const BOUND: u16 = 13;
+pub(crate) const BOUND: u16 = 13;
 
-pub const REFUSED_PICTURE: u16 = 14;
+pub(crate) const REFUSED_PICTURE: u16 = 14;
 
-pub const REFUSED_WORK: u16 = 15;
+pub(crate) const REFUSED_WORK: u16 = 15;
 
-pub const NODES_ANSWER: u16 = 16;
+pub(crate) const NODES_ANSWER: u16 = 16;
 
-pub const BOUNDS_ANSWER: u16 = 17;
+pub(crate) const BOUNDS_ANSWER: u16 = 17;
 
 // The part of a case that differs and the first place there, or AGREES.
-pub struct Finding {
+pub(crate) struct Finding {
     pub part: u16,
     pub place: usize,
 }
 
-pub fn difference(part: u16, place: usize) -> Finding {
+pub(crate) fn difference(part: u16, place: usize) -> Finding {
     Finding {
         part: part,
         place: place,
@@ -51,7 +51,7 @@ pub fn difference(part: u16, place: usize) -> Finding {
 }
 
 // A difference at a place below n; no difference at n.
-pub fn compared(part: u16, place: usize, n: usize) -> Finding {
+pub(crate) fn compared(part: u16, place: usize, n: usize) -> Finding {
     if place < n {
         return difference(part, place);
     }
@@ -59,7 +59,7 @@ pub fn compared(part: u16, place: usize, n: usize) -> Finding {
 }
 
 // A file's cases, how many of them differ, and the first that does.
-pub struct Tally {
+pub(crate) struct Tally {
     pub cases: u64,
     pub mismatches: u64,
     pub first_case: u64,
@@ -67,7 +67,7 @@ pub struct Tally {
     pub first_place: usize,
 }
 
-pub fn empty() -> Tally {
+pub(crate) fn empty() -> Tally {
     Tally {
         cases: 0,
         mismatches: 0,
@@ -82,7 +82,7 @@ fn next(n: u64) -> u64 {
 }
 
 // One more case. Cases are numbered from 1.
-pub fn counted(t: Tally, f: Finding) -> Tally {
+pub(crate) fn counted(t: Tally, f: Finding) -> Tally {
     let mut u = t;
     u.cases = next(t.cases);
     if f.part == AGREES {
@@ -121,7 +121,7 @@ fn print_part(part: u16) {
 }
 
 // Writes the end of a file's line, and where its first mismatch is.
-pub fn print(t: Tally) {
+pub(crate) fn print(t: Tally) {
     io::write_all(STDOUT_FILENO, b": ");
     io::print_decimal(STDOUT_FILENO, t.cases);
     io::write_all(STDOUT_FILENO, b" cases, ");

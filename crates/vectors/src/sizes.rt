@@ -6,7 +6,7 @@ ghost use Prim.Native.Nat.{_≤_};
 const AFTER: usize = 24;
 
 // What is in a case: its nodes, pixels and levels, or 0 of each for settings that have no sizes.
-pub struct Sizes {
+pub(crate) struct Sizes {
     pub pixels: usize,
     pub nodes: usize,
     pub levels: usize,
@@ -50,7 +50,7 @@ fn none() -> Sizes
     }
 }
 
-pub fn sizes_of(s: Settings) -> Sizes
+pub(crate) fn sizes_of(s: Settings) -> Sizes
     ensures { λ r. ⌜ (r .pixels ≤ 16641) × (r .nodes ≤ 116487) × (r .levels ≤ 7) ⌝ }
 {
     let columns = s.columns as usize;
@@ -81,7 +81,7 @@ pub fn sizes_of(s: Settings) -> Sizes
 }
 
 // Where the parts of a case of the file `pyramid` start, after its settings, and where it ends. The picture to code comes first.
-pub struct PyramidParts {
+pub(crate) struct PyramidParts {
     pub indices: usize,
     pub averages: usize,
     pub values: usize,
@@ -90,7 +90,7 @@ pub struct PyramidParts {
     pub end: usize,
 }
 
-pub fn pyramid_parts(z: Sizes) -> PyramidParts
+pub(crate) fn pyramid_parts(z: Sizes) -> PyramidParts
     requires { ⌜ (z .pixels ≤ 16641) × (z .nodes ≤ 116487) × (z .levels ≤ 7) ⌝ }
 {
     let indices = z.pixels;
@@ -109,14 +109,14 @@ pub fn pyramid_parts(z: Sizes) -> PyramidParts
 }
 
 // The places in a case of the file `levels`: first the indices, the answer and their end, and then, read anew, the values, the picture and the end.
-pub struct LevelsParts {
+pub(crate) struct LevelsParts {
     pub answer: usize,
     pub levels_end: usize,
     pub picture: usize,
     pub end: usize,
 }
 
-pub fn levels_parts(z: Sizes) -> LevelsParts
+pub(crate) fn levels_parts(z: Sizes) -> LevelsParts
     requires { ⌜ (z .pixels ≤ 16641) × (z .nodes ≤ 116487) × (z .levels ≤ 7) ⌝ }
 {
     let answer = 2 * z.nodes;
