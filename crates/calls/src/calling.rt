@@ -22,6 +22,7 @@ fn is_only_start_replaced(work: &[i32], nodes: usize) -> bool {
     false
 }
 
+// A coding of filled buffers: its answer, and what it leaves.
 fn check_coding(
     s: Settings,
     answer: u16,
@@ -30,9 +31,6 @@ fn check_coding(
     levels: &mut [i16],
     work: &mut [i32],
 ) -> bool {
-    buffers::fill_picture(picture);
-    buffers::fill_levels(levels);
-    buffers::fill_work(work);
     if pyramid::coding(s, picture, levels, work) != answer {
         return false;
     }
@@ -48,6 +46,7 @@ fn check_coding(
     buffers::is_work_kept(work, 0)
 }
 
+// The same of a rebuilding.
 fn check_rebuilding(
     s: Settings,
     answer: u16,
@@ -57,9 +56,6 @@ fn check_rebuilding(
     levels: &mut [i16],
     work: &mut [i32],
 ) -> bool {
-    buffers::fill_picture(picture);
-    buffers::fill_levels(levels);
-    buffers::fill_work(work);
     let replaced = buffers::exchange(levels, put.place, put.index);
     if pyramid::rebuilding(s, levels, picture, work) != answer {
         return false;
@@ -79,41 +75,13 @@ fn check_rebuilding(
     buffers::is_work_kept(work, 0)
 }
 
-// Whether a coding with buffers of these lengths gives the answer. An accepted one replaces just the first `nodes` places of the work buffer.
-pub(crate) fn coding_gives(s: Settings, n: Lengths, answer: u16, nodes: usize) -> bool {
-    let mut picture: [u8; 48] = [0; 48];
-    let mut levels: [i16; 72] = [0; 72];
-    let mut work: [i32; 72] = [0; 72];
-    let p = n.picture;
-    let l = n.levels;
-    let w = n.work;
-    if 48 < p {
-        return false;
-    }
-    if 72 < l {
-        return false;
-    }
-    if 72 < w {
-        return false;
-    }
-    check_coding(
-        s,
-        answer,
-        nodes,
-        &mut picture[0..p],
-        &mut levels[0..l],
-        &mut work[0..w],
-    )
-}
+// The two calls.
+const CODING: u16 = 0;
 
-// The same of a rebuilding, with an index put into the level buffer.
-pub(crate) fn rebuilding_gives(
-    s: Settings,
-    n: Lengths,
-    put: Put,
-    answer: u16,
-    nodes: usize,
-) -> bool {
+const REBUILDING: u16 = 1;
+
+// Whether a call with buffers of these lengths gives the answer. An accepted one replaces just the first `nodes` places of the work buffer.
+fn gives(call: u16, s: Settings, n: Lengths, put: Put, answer: u16, nodes: usize) -> bool {
     let mut picture: [u8; 48] = [0; 48];
     let mut levels: [i16; 72] = [0; 72];
     let mut work: [i32; 72] = [0; 72];
@@ -128,6 +96,19 @@ pub(crate) fn rebuilding_gives(
     }
     if 72 < w {
         return false;
+    }
+    buffers::fill_picture(&mut picture);
+    buffers::fill_levels(&mut levels);
+    buffers::fill_work(&mut work);
+    if call == CODING {
+        return check_coding(
+            s,
+            answer,
+            nodes,
+            &mut picture[0..p],
+            &mut levels[0..l],
+            &mut work[0..w],
+        );
     }
     check_rebuilding(
         s,
@@ -138,4 +119,20 @@ pub(crate) fn rebuilding_gives(
         &mut levels[0..l],
         &mut work[0..w],
     )
+}
+
+pub(crate) fn coding_gives(s: Settings, n: Lengths, answer: u16, nodes: usize) -> bool {
+    let put = Put { place: 0, index: 0 };
+    gives(CODING, s, n, put, answer, nodes)
+}
+
+// With an index put into the level buffer.
+pub(crate) fn rebuilding_gives(
+    s: Settings,
+    n: Lengths,
+    put: Put,
+    answer: u16,
+    nodes: usize,
+) -> bool {
+    gives(REBUILDING, s, n, put, answer, nodes)
 }

@@ -14,6 +14,7 @@ pub(crate) const PYRAMID: u16 = 0;
 
 pub(crate) const LEVELS: u16 = 1;
 
+// Reads the settings of the next case and lends its checks the parts of the buffers that it takes.
 fn check_next(
     kind: u16,
     fd: i32,
@@ -29,13 +30,41 @@ fn check_next(
     }
     let s = decoding::settings(&head);
     let z = sizes::sizes_of(s);
+    let nodes = z.nodes;
+    let pixels = z.pixels;
+    let places = z.work;
     if z.levels == 0 {
         return difference(reporting::SETTINGS, 0);
     }
-    if kind == PYRAMID {
-        return pyramid_cases::check_read(fd, s, z, case, levels, picture, work);
+    if levels.len() < nodes {
+        return difference(reporting::SETTINGS, 0);
     }
-    levels_cases::check_read(fd, s, z, case, levels, picture, work)
+    if picture.len() < pixels {
+        return difference(reporting::SETTINGS, 0);
+    }
+    if work.len() < places {
+        return difference(reporting::SETTINGS, 0);
+    }
+    if kind == PYRAMID {
+        return pyramid_cases::check_read(
+            fd,
+            s,
+            z,
+            case,
+            &mut levels[0..nodes],
+            &mut picture[0..pixels],
+            &mut work[0..places],
+        );
+    }
+    levels_cases::check_read(
+        fd,
+        s,
+        z,
+        case,
+        &mut levels[0..nodes],
+        &mut picture[0..pixels],
+        &mut work[0..places],
+    )
 }
 
 // All cases to the end of the file. A file has fewer than a million.

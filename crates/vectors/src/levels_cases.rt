@@ -77,7 +77,7 @@ fn read_case(fd: i32, p: LevelsParts, bytes: &mut [u8], levels: &mut [i16]) -> u
     decoding::MISSING
 }
 
-// Reads a case and lends its checks the parts of the buffers that it takes.
+// Reads a case and checks it over buffers of its sizes.
 pub(crate) fn check_read(
     fd: i32,
     s: Settings,
@@ -90,30 +90,9 @@ pub(crate) fn check_read(
     requires { ⌜ (z .pixels ≤ 16641) × (z .nodes ≤ 116487) × (z .levels ≤ 7) ⌝ }
 {
     let p = sizes::levels_parts(z);
-    let nodes = z.nodes;
-    let pixels = z.pixels;
-    let places = z.work;
-    if levels.len() < nodes {
-        return difference(reporting::SETTINGS, 0);
-    }
-    if picture.len() < pixels {
-        return difference(reporting::SETTINGS, 0);
-    }
-    if work.len() < places {
-        return difference(reporting::SETTINGS, 0);
-    }
-    let answer = read_case(fd, p, case, &mut levels[0..nodes]);
+    let answer = read_case(fd, p, case, levels);
     if answer == decoding::MISSING {
         return difference(reporting::CASE_CUT, 0);
     }
-    check_case(
-        s,
-        z,
-        answer,
-        p,
-        case,
-        &levels[0..nodes],
-        &mut picture[0..pixels],
-        &mut work[0..places],
-    )
+    check_case(s, z, answer, p, case, levels, picture, work)
 }

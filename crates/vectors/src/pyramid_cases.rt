@@ -99,27 +99,7 @@ fn check_settings(s: Settings, z: Sizes, p: PyramidParts, case: &[u8]) -> Findin
     compared(reporting::BOUND, slot, 7)
 }
 
-fn check_case(
-    s: Settings,
-    z: Sizes,
-    p: PyramidParts,
-    case: &[u8],
-    levels: &mut [i16],
-    picture: &mut [u8],
-    work: &mut [i32],
-) -> Finding {
-    let settings = check_settings(s, z, p, case);
-    if settings.part != reporting::AGREES {
-        return settings;
-    }
-    let coded = check_coding(s, z, p, case, levels, work);
-    if coded.part != reporting::AGREES {
-        return coded;
-    }
-    check_rebuilding(s, z, p, case, levels, picture, work)
-}
-
-// Reads a case and lends its checks the parts of the buffers that it takes.
+// Reads a case and checks it over buffers of its sizes.
 pub(crate) fn check_read(
     fd: i32,
     s: Settings,
@@ -132,28 +112,16 @@ pub(crate) fn check_read(
     requires { ⌜ (z .pixels ≤ 16641) × (z .nodes ≤ 116487) × (z .levels ≤ 7) ⌝ }
 {
     let p = sizes::pyramid_parts(z);
-    let nodes = z.nodes;
-    let pixels = z.pixels;
-    let places = z.work;
     if !reading::read_exactly(fd, case, p.end) {
         return difference(reporting::CASE_CUT, 0);
     }
-    if levels.len() < nodes {
-        return difference(reporting::SETTINGS, 0);
+    let settings = check_settings(s, z, p, case);
+    if settings.part != reporting::AGREES {
+        return settings;
     }
-    if picture.len() < pixels {
-        return difference(reporting::SETTINGS, 0);
+    let coded = check_coding(s, z, p, case, levels, work);
+    if coded.part != reporting::AGREES {
+        return coded;
     }
-    if work.len() < places {
-        return difference(reporting::SETTINGS, 0);
-    }
-    check_case(
-        s,
-        z,
-        p,
-        case,
-        &mut levels[0..nodes],
-        &mut picture[0..pixels],
-        &mut work[0..places],
-    )
+    check_rebuilding(s, z, p, case, levels, picture, work)
 }
