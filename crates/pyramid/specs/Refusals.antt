@@ -28,9 +28,13 @@ abbrev pub limit : ℕ
 limit = 4096
 
 module _ (s : Settings) where
-  -- 1: size, depth or divisibility; 2: the kernel; 3: a bin slot
+  -- 1: size, depth or divisibility; 2: the kernel
+  unfoldable pub shapeRefusal : ℕ
+  shapeRefusal = first (unless (sizeOk s) 1 ∷ unless (kernelOk (s .kernel)) 2 ∷ [])
+
+  -- these, then 3: a bin slot
   unfoldable pub settingsRefusal : ℕ
-  settingsRefusal = first (unless (sizeOk s) 1 ∷ unless (kernelOk (s .kernel)) 2 ∷ unless (binsOk s) 3 ∷ [])
+  settingsRefusal = first (shapeRefusal ∷ unless (binsOk s) 3 ∷ [])
 
   -- 5: picture length is not C × R; 6: level buffer length is not T; 7: work buffer shorter than T
   unfoldable pub buffersRefusal : (picture levels work : ℕ) → ℕ
