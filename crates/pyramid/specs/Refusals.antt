@@ -45,6 +45,10 @@ module _ (s : Settings) where
   unfoldable pub valuesOk : List ℤ → Bool
   valuesOk levels = all (λ v. leb (natAbs v) limit) (allLevels s (λ l i j. valueOf s l (readLevels s levels l i j)))
 
+  -- a level buffer alone: settings, then 6 and 11
+  unfoldable pub levelsRefusal : List ℤ → ℕ
+  levelsRefusal levels = first (settingsRefusal ∷ unless (eqb (length levels) (total s)) 6 ∷ unless (valuesOk levels) 11 ∷ [])
+
   -- coding looks for 1, 2, 3, 5, 6, 7
   unfoldable pub codingRefusal : List ℕ → List ℤ → List ℤ → ℕ
   codingRefusal picture levels work = first (settingsRefusal ∷ buffersRefusal (length picture) (length levels) (length work) ∷ [])
