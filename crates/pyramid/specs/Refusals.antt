@@ -4,7 +4,7 @@ use mathlib.Core.Bool.{Bool, cond}
 use mathlib.Core.List.{List, [], _∷_}
 use Prim.Native.Nat.{ℕ, zero, suc, _*_}
 use lib.Dec.{leb, eqb}
-use lib.IntN.{ℤ, natAbs}
+use lib.IntN.{ℤ, pos, natAbs, _*ℤ_}
 use lib.ListN.{length}
 use Rattle.mathematics.specs.Tests.{all}
 use Rattle.pyramid.specs.declared.Settings.{Settings}
@@ -26,6 +26,10 @@ first (suc number ∷ later) = suc number
 -- the values of a lawful index lie within this of 0
 abbrev pub limit : ℕ
 limit = 4096
+
+-- an index times its bin lies within ±4,096
+unfoldable pub indexOk : ℕ → ℤ → Bool
+indexOk n m = leb (natAbs (m *ℤ pos n)) limit
 
 module _ (s : Settings) where
   -- 1: size, depth or divisibility; 2: the kernel
