@@ -96,7 +96,7 @@ module _ (picture : List ℕ) (g : Generation) where
 
         cases : Dec (q < s .rows * s .columns) → P q (getD (rebuiltFrom picture g .picture) q 0)
         cases (yes h) =
-            rw picture-is (by-place (s .columns) (s .rows) (λ q. P q (getD (raster (s .columns) (s .rows) pixel) q 0)) (omega (arith, call .law .across .least)) at-node q h)
+            rw picture-is (by-place (s .columns) (s .rows) (λ q. P q (getD (raster (s .columns) (s .rows) pixel) q 0)) (omega (arith, call .law .shaped .across .least)) at-node q h)
         cases (no h) =
             rw (List·getD-eq-default (rebuiltFrom picture g .picture) 0 {n = q} (omega (arith, size, call .sized .picture-is)))
             (past q (omega (arith, call .sized .picture-is)))

@@ -34,10 +34,10 @@ module _ (s : Settings) (law : Lawful s) where
   unfolding bound tolerance highest
   bound-highest zero l e = omega (arith, law .binned l (omega arith) .most)
   bound-highest (suc d) l e =
-      omega (arith, bound-highest d (suc l) (omega arith), most-magnified (law .kernel) (bound s d (suc l)), law .binned l (omega arith) .most)
+      omega (arith, bound-highest d (suc l) (omega arith), most-magnified (law .shaped .kernel) (bound s d (suc l)), law .binned l (omega arith) .most)
 
   pub boundAt-most : (l : ℕ) → l ≤ s .depth → boundAt s l ≤ 14581
-  boundAt-most l h = omega (arith, bound-highest (s .depth - l) l (omega arith), highest-room (s .depth - l) (omega (arith, law .deep)))
+  boundAt-most l h = omega (arith, bound-highest (s .depth - l) l (omega arith), highest-room (s .depth - l) (omega (arith, law .shaped .deep)))
 
 -- ---- from the top down
 
@@ -95,7 +95,7 @@ module _ {s : Settings} where
         deep = h;
         here = here;
         small = omega (arith, boundAt-most s law l h);
-        slots = rw (e, here) (one-bound s l h (omega (arith, law .deep)));
+        slots = rw (e, here) (one-bound s l h (omega (arith, law .shaped .deep)));
       }
 
   pub filled-start : Lawful s → Filled s (set (replicate 7 0) (s .depth) (bin s (s .depth) / 2)) (s .depth) (bin s (s .depth) / 2)

@@ -4,7 +4,7 @@ use mathlib.Core.Bool.{true, false}
 use Prim.Native.Nat.{ℕ, _≤_, _<_}
 use native.Mathlib.Omega.{arith}
 use borrow.Author.Tests.{ltb-true, ltb-false, le-leb, lt-leb}
-use lib.Dec.{T, leb}
+use lib.Dec.{T}
 use lib.IntN.{ℤ, pos, negsuc, natAbs, _+ℤ_, _-ℤ_, _*ℤ_}
 use lib.Signed.{_≤ℤ_, _<ℤ_, ltZ, nonNeg}
 use mir.Syntax.{w8, w16, w32}
@@ -14,7 +14,7 @@ use Rattle.mathematics.proofs.Integers.{ints, all₁, abs-⊖}
 use Rattle.mathematics.proofs.IntegerLaws.{fits-by, abs-of-fits, abs-sum, abs-minus, abs-product, ltZ-true, ltZ-false}
 use Rattle.quantizer.specs.Bins.{binIndex}
 use Rattle.pyramid.specs.declared.Settings.{Settings}
-use Rattle.pyramid.specs.Refusals.{limit}
+use Rattle.pyramid.specs.Refusals.{limit, indexOk}
 use Rattle.pyramid.specs.Rebuilding.{clamp}
 use Rattle.pyramid.specs.Rows.{Within}
 use Rattle.pyramid.proofs.ColumnSums.{within-fits}
@@ -109,11 +109,14 @@ module _ {m : ℤ} (hm : SFits w16 m) {n : ℕ} (hn : Fits w16 n) where
     rebuilt-held = held-is rebuilt-fits ∙ rebuilt-is
 
   -- what the tests of its range tell
-  pub value-low : ltZ value (negsuc 4095) ≡ true → leb (natAbs (m *ℤ pos n)) limit ≡ false
+  pub value-low : ltZ value (negsuc 4095) ≡ true → indexOk n m ≡ false
+  unfolding indexOk
   value-low = rw value-is (λ h. lt-leb _ limit (far-below (m *ℤ pos n) (ltZ-true h)))
 
-  pub value-high : ltZ (pos 4096) value ≡ true → leb (natAbs (m *ℤ pos n)) limit ≡ false
+  pub value-high : ltZ (pos 4096) value ≡ true → indexOk n m ≡ false
+  unfolding indexOk
   value-high = rw value-is (λ h. lt-leb _ limit (far-above (m *ℤ pos n) (ltZ-true h)))
 
-  pub value-within : ltZ value (negsuc 4095) ≡ false → ltZ (pos 4096) value ≡ false → leb (natAbs (m *ℤ pos n)) limit ≡ true
+  pub value-within : ltZ value (negsuc 4095) ≡ false → ltZ (pos 4096) value ≡ false → indexOk n m ≡ true
+  unfolding indexOk
   value-within = rw value-is (λ g h. le-leb _ limit (close (m *ℤ pos n) (ltZ-false g) (ltZ-false h)))

@@ -5,7 +5,7 @@ use native.Mathlib.Omega.{arith}
 use lib.Dec.{T, leb, eqb, leb→le, eqb→eq, le→leb}
 use Rattle.mathematics.proofs.Tests.{both, then, below-at}
 use Rattle.pyramid.specs.declared.Settings.{Settings}
-use Rattle.pyramid.specs.Lawful.{Side, Bin, Lawful}
+use Rattle.pyramid.specs.Lawful.{Side, Bin, Shaped, Lawful}
 use Rattle.pyramid.specs.Settings.{sideOk, depthOk, divides, kernelOk, bin, slotOk, sizeOk, binsOk}
 
 side-law : (side depth : ℕ) → T (sideOk side) → T (divides depth side) → Side side depth
@@ -21,19 +21,25 @@ bin-law depth l n h t =
     record { least = leb→le 1 n least; most = leb→le n 255 most }
 
 module _ (s : Settings) where
-  pub lawful : T (sizeOk s) → T (kernelOk (s .kernel)) → T (binsOk s) → Lawful s
-  unfolding sizeOk kernelOk binsOk depthOk
-  lawful size kernel bins =
+  pub shaped : T (sizeOk s) → T (kernelOk (s .kernel)) → Shaped s
+  unfolding sizeOk kernelOk depthOk
+  shaped size kernel =
       let (sides, rest) = both (sideOk (s .columns) && sideOk (s .rows)) _ size in
       let (across, along) = both (sideOk (s .columns)) (sideOk (s .rows)) sides in
       let (deep, whole) = both (depthOk (s .depth)) (divides (s .depth) (s .columns) && divides (s .depth) (s .rows)) rest in
       let (c, r) = both (divides (s .depth) (s .columns)) (divides (s .depth) (s .rows)) whole in
       let (k₃, k₆) = both (leb 3 (s .kernel)) (leb (s .kernel) 6) kernel in
-      let d : s .depth ≤ 6 = leb→le (s .depth) 6 deep in
       record {
-        deep = d;
+        deep = leb→le (s .depth) 6 deep;
         across = side-law (s .columns) (s .depth) across c;
         along = side-law (s .rows) (s .depth) along r;
         kernel = record { least = leb→le 3 (s .kernel) k₃; most = leb→le (s .kernel) 6 k₆ };
-        binned = λ l h. bin-law (s .depth) l (bin s l) h (below-at 7 (λ l. slotOk (s .depth) l (bin s l)) bins l (omega arith));
+      }
+
+  pub lawful : Shaped s → T (binsOk s) → Lawful s
+  unfolding binsOk
+  lawful shape bins =
+      record {
+        shaped = shape;
+        binned = λ l h. bin-law (s .depth) l (bin s l) h (below-at 7 (λ l. slotOk (s .depth) l (bin s l)) bins l (omega (arith, shape .deep)));
       }

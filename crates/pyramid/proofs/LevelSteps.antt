@@ -47,22 +47,22 @@ expand-same {k} h zc zr u v same hc hr i j hi hj =
 -- a level that has one above it has at least three columns and rows
 module _ (s : Settings) (law : Lawful s) (l : ℕ) (h : l < s .depth) where
   pub level-wide : 2 ≤ last (s .columns) l
-  level-wide = omega (arith, last-suc (s .columns) l, last-least (law .across) (suc l) h)
+  level-wide = omega (arith, last-suc (s .columns) l, last-least (law .shaped .across) (suc l) h)
 
   pub level-high : 2 ≤ last (s .rows) l
-  level-high = omega (arith, last-suc (s .rows) l, last-least (law .along) (suc l) h)
+  level-high = omega (arith, last-suc (s .rows) l, last-least (law .shaped .along) (suc l) h)
 
   -- steps of levels that agree at the nodes
   module _ (u v : Level) where
     pub reduced-same : EachNode s l (λ i j. u i j ≡ v i j) → EachNode s (suc l) (λ i j. reduced s l u i j ≡ reduced s l v i j)
     reduced-same same i j hi hj =
-        reduce-same (law .kernel) (last (s .columns) l) (last (s .rows) l) u v (λ i j hi hj. same i j (omega arith) (omega arith)) level-wide level-high i j
+        reduce-same (law .shaped .kernel) (last (s .columns) l) (last (s .rows) l) u v (λ i j hi hj. same i j (omega arith) (omega arith)) level-wide level-high i j
         (omega (arith, last-suc (s .columns) l)) (omega (arith, last-suc (s .rows) l))
 
     pub expanded-same : EachNode s (suc l) (λ i j. u i j ≡ v i j) → EachNode s l (λ i j. expanded s l u i j ≡ expanded s l v i j)
     expanded-same same i j hi hj =
-        expand-same (law .kernel) (last (s .columns) (suc l)) (last (s .rows) (suc l)) u v (λ i j hi hj. same i j (omega arith) (omega arith))
-        (last-least (law .across) (suc l) h) (last-least (law .along) (suc l) h) i j (omega (arith, last-suc (s .columns) l)) (omega (arith, last-suc (s .rows) l))
+        expand-same (law .shaped .kernel) (last (s .columns) (suc l)) (last (s .rows) (suc l)) u v (λ i j hi hj. same i j (omega arith) (omega arith))
+        (last-least (law .shaped .across) (suc l) h) (last-least (law .shaped .along) (suc l) h) i j (omega (arith, last-suc (s .columns) l)) (omega (arith, last-suc (s .rows) l))
 
 -- ---- a level of a buffer
 
@@ -95,10 +95,10 @@ module _ (s : Settings) (law : Lawful s) (buffer : List ℤ) (long : total s ≤
     reducible f = record {
       wide = omega (arith, level-wide s law l h);
       high = omega (arith, level-high s law l h);
-      wide-most = omega (arith, last-most (s .columns) l, law .across .most);
-      high-most = omega (arith, last-most (s .rows) l, law .along .most);
-      wide-even = omega (arith, last-even (law .across) l h);
-      high-even = omega (arith, last-even (law .along) l h);
+      wide-most = omega (arith, last-most (s .columns) l, law .shaped .across .most);
+      high-most = omega (arith, last-most (s .rows) l, law .shaped .along .most);
+      wide-even = omega (arith, last-even (law .shaped .across) l h);
+      high-even = omega (arith, last-even (law .shaped .along) l h);
       before = omega (arith, next-nodes, start-below s l h);
       fits = omega (arith, level-inside s l (omega arith));
       small = part-small l limit (omega arith) f;
@@ -126,10 +126,10 @@ module _ (s : Settings) (law : Lawful s) (buffer : List ℤ) (long : total s ≤
   module _ (l : ℕ) (h : suc l ≤ s .depth) where
     pub expandable : (e : ℕ) → LevelSmall s (suc l) e buffer → Source 2 e (columnsAt s (suc l)) (rowsAt s (suc l)) (part (start s (suc l)) (start s (suc l) + nodesAt s (suc l)) buffer)
     expandable e f = record {
-      wide = omega (arith, last-least (law .across) (suc l) h);
-      high = omega (arith, last-least (law .along) (suc l) h);
-      wide-most = omega (arith, last-most (s .columns) (suc l), law .across .most);
-      high-most = omega (arith, last-most (s .rows) (suc l), law .along .most);
+      wide = omega (arith, last-least (law .shaped .across) (suc l) h);
+      high = omega (arith, last-least (law .shaped .along) (suc l) h);
+      wide-most = omega (arith, last-most (s .columns) (suc l), law .shaped .across .most);
+      high-most = omega (arith, last-most (s .rows) (suc l), law .shaped .along .most);
       filled = length-level s buffer (suc l) h long;
       small = part-small (suc l) e h f;
     }
@@ -139,10 +139,10 @@ module _ (s : Settings) (law : Lawful s) (buffer : List ℤ) (long : total s ≤
 
     -- below the top a level has twice the columns, less one
     pub twice-wide : 2 * (columnsAt s (suc l) - 1) + 1 ≡ columnsAt s l
-    twice-wide = omega (arith, last-suc (s .columns) l, last-even (law .across) l h)
+    twice-wide = omega (arith, last-suc (s .columns) l, last-even (law .shaped .across) l h)
 
     pub twice-high : 2 * (rowsAt s (suc l) - 1) + 1 ≡ rowsAt s l
-    twice-high = omega (arith, last-suc (s .rows) l, last-even (law .along) l h)
+    twice-high = omega (arith, last-suc (s .rows) l, last-even (law .shaped .along) l h)
 
     pub expand-read : (i j : ℕ) → i < columnsAt s l → j < rowsAt s l
         → expand (s .kernel) (columnsAt s (suc l) - 1) (rowsAt s (suc l) - 1) read-above i j ≡ expanded s l (readLevels s buffer (suc l)) i j

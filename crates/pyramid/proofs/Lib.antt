@@ -26,6 +26,7 @@ pub mod ExpandRows
 pub mod LevelSteps
 pub mod AverageLevels
 pub mod LevelParts
+pub mod CheckedLevels
 pub mod Prediction
 pub mod PredictedRows
 pub mod IndexRows

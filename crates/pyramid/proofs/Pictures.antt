@@ -21,10 +21,10 @@ use Rattle.pyramid.proofs.LevelPlaces.{read-front}
 module _ (s : Settings) (law : Lawful s) where
   -- level 0 has the columns and rows of the picture
   pub picture-wide : columnsAt s 0 ≡ s .columns
-  picture-wide = sym (count-zero (s .columns) (omega (arith, law .across .least)))
+  picture-wide = sym (count-zero (s .columns) (omega (arith, law .shaped .across .least)))
 
   pub picture-high : rowsAt s 0 ≡ s .rows
-  picture-high = sym (count-zero (s .rows) (omega (arith, law .along .least)))
+  picture-high = sym (count-zero (s .rows) (omega (arith, law .shaped .along .least)))
 
   pub picture-nodes : start s 0 + s .rows * s .columns ≡ total s
   picture-nodes = rw (picture-wide, picture-high) at (start-bottom s)

@@ -65,7 +65,7 @@ roomy-zeros = record { long = length-replicate 129 (pos 0); small = small-zeros 
 
 module _ (s : Settings) (law : Lawful s) (l : ℕ) where
   pub roomy-columns : {row : List ℤ} → Roomy row → columnsAt s l ≤ length row
-  roomy-columns r = omega (arith, r .long, last-most (s .columns) l, law .across .most)
+  roomy-columns r = omega (arith, r .long, last-most (s .columns) l, law .shaped .across .most)
 
   pub roomy-predicted : (deep : l ≤ s .depth) (g : ℕ → Level) → (suc l ≤ s .depth → EachNode s (suc l) (λ i j. natAbs (g (suc l) i j) ≤ 524288))
       → (j : ℕ) → j < rowsAt s l → {row : List ℤ} → Roomy row → Roomy (splice 0 (tabulate (columnsAt s l) (λ i. predicted s (s .depth - l) l g i j)) row)

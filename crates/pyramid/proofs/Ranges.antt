@@ -64,8 +64,8 @@ module _ (s : Settings) (law : Lawful s) where
   pub near-constant : (l : ℕ) → suc l ≤ s .depth → (e : ℕ) (u : Level) (c : ℤ) → NearAt s law (suc l) e u (λ i j. c)
       → NearAt s law l ((196 * e + 99) / 100) (expanded s l u) (λ i j. c)
   near-constant l hl e u c close i j hi hj =
-      near-more (most-magnified (law .kernel) e)
-      (subst (Near (magnified (s .kernel) e) (expanded s l u i j)) (expand-constant (law .kernel) (last (s .columns) (suc l)) (last (s .rows) (suc l)) c i j)
+      near-more (most-magnified (law .shaped .kernel) e)
+      (subst (Near (magnified (s .kernel) e) (expanded s l u i j)) (expand-constant (law .shaped .kernel) (last (s .columns) (suc l)) (last (s .rows) (suc l)) c i j)
       (near-expanded s law l hl e u (λ i j. c) close i j hi hj))
 
   -- ---- averages, differences and values of a legal picture
@@ -78,20 +78,20 @@ module _ (s : Settings) (law : Lawful s) where
     unfolding average spreadTo
     near-average zero hl i j hi hj = legal i j hi hj
     near-average (suc l) hl i j hi hj =
-        subst (Near (spread (spreadTo l)) (reduced s l (average s p l) i j)) (reduce-constant (law .kernel) (last (s .columns) l) (last (s .rows) l) (pos 127) i j)
-        (near-reduce (law .kernel) (last (s .columns) l) (last (s .rows) l) (spreadTo l) (average s p l) (λ i j. pos 127) (near-average l (omega arith))
-        (omega (arith, last-suc (s .columns) l, last-least (law .across) (suc l) hl)) (omega (arith, last-suc (s .rows) l, last-least (law .along) (suc l) hl))
+        subst (Near (spread (spreadTo l)) (reduced s l (average s p l) i j)) (reduce-constant (law .shaped .kernel) (last (s .columns) l) (last (s .rows) l) (pos 127) i j)
+        (near-reduce (law .shaped .kernel) (last (s .columns) l) (last (s .rows) l) (spreadTo l) (average s p l) (λ i j. pos 127) (near-average l (omega arith))
+        (omega (arith, last-suc (s .columns) l, last-least (law .shaped .across) (suc l) hl)) (omega (arith, last-suc (s .rows) l, last-least (law .shaped .along) (suc l) hl))
         i j (omega (arith, last-suc (s .columns) l)) (omega (arith, last-suc (s .rows) l)))
 
     small-average : (l : ℕ) → l ≤ s .depth → NearAt s law l 3968 (average s p l) (λ i j. pos 0)
     small-average l hl i j hi hj =
-        near-more (omega (arith, average-room l (omega (arith, law .deep)))) (near-trans (near-average l hl i j hi hj) (near-zero {e = 127} (pos 127) (omega arith)))
+        near-more (omega (arith, average-room l (omega (arith, law .shaped .deep)))) (near-trans (near-average l hl i j hi hj) (near-zero {e = 127} (pos 127) (omega arith)))
 
     small-difference : (d l : ℕ) → l + d ≡ s .depth → NearAt s law l 3968 (difference s p d l) (λ i j. pos 0)
     unfolding difference
     small-difference zero l e i j hi hj = small-average l (omega arith) i j hi hj
     small-difference (suc d) l e i j hi hj =
-        near-more (difference-room l (omega (arith, law .deep)))
+        near-more (difference-room l (omega (arith, law .shaped .deep)))
         (near-sub (near-average l (omega arith) i j hi hj)
         (near-constant l (omega arith) (spreadTo (suc l)) (average s p (suc l)) (pos 127) (near-average (suc l) (omega arith)) i j hi hj))
 
@@ -116,17 +116,17 @@ module _ (s : Settings) (law : Lawful s) where
   reduce-sums l hl g e small i j hi hj =
       window-sums (weight (s .kernel)) (weight (s .kernel)) (λ t. reflect (last (s .columns) l) (2 * i + t)) (λ t. reflect (last (s .rows) l) (2 * j + t)) g e
       (λ m n hm hn. abs-near (small _ _
-      (reduce-inside (last (s .columns) l) i m (omega (arith, last-suc (s .columns) l, last-least (law .across) (suc l) hl)) (omega (arith, last-suc (s .columns) l)) hm)
-      (reduce-inside (last (s .rows) l) j n (omega (arith, last-suc (s .rows) l, last-least (law .along) (suc l) hl)) (omega (arith, last-suc (s .rows) l)) hn)))
-      24 (weight-size (law .kernel)) (weight-size (law .kernel))
+      (reduce-inside (last (s .columns) l) i m (omega (arith, last-suc (s .columns) l, last-least (law .shaped .across) (suc l) hl)) (omega (arith, last-suc (s .columns) l)) hm)
+      (reduce-inside (last (s .rows) l) j n (omega (arith, last-suc (s .rows) l, last-least (law .shaped .along) (suc l) hl)) (omega (arith, last-suc (s .rows) l)) hn)))
+      24 (weight-size (law .shaped .kernel)) (weight-size (law .shaped .kernel))
 
   expand-sums : (l : ℕ) → l < s .depth → (g : Level) (e : ℕ) → NearAt s law (suc l) e g (λ i j. pos 0) → ExpandSums s l g e
   expand-sums l hl g e small i j hi hj =
       window-sums (evenWeight (s .kernel) i) (evenWeight (s .kernel) j) (λ t. reflect (last (s .columns) (suc l)) (halved i t)) (λ t. reflect (last (s .rows) (suc l)) (halved j t)) g e
       (λ m n hm hn. abs-near (small _ _
-      (expand-inside (last (s .columns) (suc l)) i m (last-least (law .across) (suc l) hl) (omega (arith, last-suc (s .columns) l)) hm)
-      (expand-inside (last (s .rows) (suc l)) j n (last-least (law .along) (suc l) hl) (omega (arith, last-suc (s .rows) l)) hn)))
-      14 (le-trans (even-size (law .kernel) i) (reach-most (law .kernel))) (le-trans (even-size (law .kernel) j) (reach-most (law .kernel)))
+      (expand-inside (last (s .columns) (suc l)) i m (last-least (law .shaped .across) (suc l) hl) (omega (arith, last-suc (s .columns) l)) hm)
+      (expand-inside (last (s .rows) (suc l)) j n (last-least (law .shaped .along) (suc l) hl) (omega (arith, last-suc (s .rows) l)) hn)))
+      14 (le-trans (even-size (law .shaped .kernel) i) (reach-most (law .shaped .kernel))) (le-trans (even-size (law .shaped .kernel) j) (reach-most (law .shaped .kernel)))
 
   -- ---- of all nodes
 
@@ -163,9 +163,9 @@ module _ (s : Settings) (law : Lawful s) where
   unfolding valuesOk
   rebuilding-ranges levels t = record {
     values = λ l hl i j hi hj. leb→le _ limit (stack-all s (λ v. leb (natAbs v) limit) v (s .depth) t l i j hl hi hj);
-    rebuiltValues = λ l hl. each l (near-rebuilt m accepted (s .depth - l) l (omega arith)) (2 ^ 19) (height-room (s .depth - l) (omega (arith, law .deep)));
+    rebuiltValues = λ l hl. each l (near-rebuilt m accepted (s .depth - l) l (omega arith)) (2 ^ 19) (height-room (s .depth - l) (omega (arith, law .shaped .deep)));
     expandSums = λ l hl. expand-sums l hl (rebuilt s m (suc l)) (2 ^ 19)
-        (wider (suc l) (near-rebuilt m accepted (s .depth - suc l) (suc l) (omega arith)) (2 ^ 19) (height-room (s .depth - suc l) (omega (arith, law .deep))));
+        (wider (suc l) (near-rebuilt m accepted (s .depth - suc l) (suc l) (omega arith)) (2 ^ 19) (height-room (s .depth - suc l) (omega (arith, law .shaped .deep))));
   }
     where
       m : ℕ → Level

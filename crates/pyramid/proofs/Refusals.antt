@@ -10,11 +10,11 @@ use lib.ListN.{length}
 use Rattle.pyramid.specs.declared.Settings.{Settings}
 use Rattle.pyramid.specs.Settings.{sizeOk, kernelOk, binsOk}
 use Rattle.pyramid.specs.Sizes.{total}
-use Rattle.pyramid.specs.Refusals.{unless, first, settingsRefusal, buffersRefusal, valuesOk, codingRefusal, rebuildingRefusal}
+use Rattle.pyramid.specs.Refusals.{unless, first, shapeRefusal, settingsRefusal, buffersRefusal, valuesOk, codingRefusal, rebuildingRefusal}
 use Rattle.pyramid.specs.Calls.{leaves}
 use Rattle.pyramid.specs.Accepted.{Sized, Accepted}
-use Rattle.pyramid.specs.Lawful.{Lawful}
-use Rattle.pyramid.proofs.Lawful.{lawful}
+use Rattle.pyramid.specs.Lawful.{Shaped, Lawful}
+use Rattle.pyramid.proofs.Lawful.{shaped, lawful}
 
 pub first-none : (x : ℕ) (later : List ℕ) → first (x ∷ later) ≡ 0 → (x ≡ 0) × (first later ≡ 0)
 unfolding first
@@ -59,12 +59,17 @@ unless-holds true number t = refl
 unless-holds false number t = absurd t
 
 module _ (s : Settings) where
+  pub accepted-shape : shapeRefusal s ≡ 0 → Shaped s
+  unfolding shapeRefusal
+  accepted-shape e =
+      let (size, e₂) = first-none _ _ e in
+      shaped s (unless-none (sizeOk s) 0 size) (unless-none (kernelOk (s .kernel)) 1 (first-none _ _ e₂ .0))
+
   pub accepted-settings : settingsRefusal s ≡ 0 → Lawful s
   unfolding settingsRefusal
   accepted-settings e =
-      let (size, e₂) = first-none _ _ e in
-      let (kernel, e₃) = first-none _ _ e₂ in
-      lawful s (unless-none (sizeOk s) 0 size) (unless-none (kernelOk (s .kernel)) 1 kernel) (unless-none (binsOk s) 2 (first-none _ _ e₃ .0))
+      let (shape, e₃) = first-none _ _ e in
+      lawful s (accepted-shape shape) (unless-none (binsOk s) 2 (first-none _ _ e₃ .0))
 
   accepted-buffers : (picture levels work : ℕ) → buffersRefusal s picture levels work ≡ 0 → Sized s picture levels work
   unfolding buffersRefusal

@@ -1,5 +1,5 @@
 -- Laws of the levels' sizes: halving, at least two columns and rows, at most the picture's, and T of at most 22,359. Assumes nothing.
-use mathlib.Core.Path.{_≡_, sym, ap, _∙_}
+use mathlib.Core.Path.{_≡_, refl, sym, ap, _∙_}
 use mathlib.Core.List.{[]}
 use Prim.Native.Nat.{ℕ, zero, suc, _+_, _-_, _/_, _%_, _^_, _≤_, _<_}
 use native.Mathlib.Nat.{div-one, div-le-self, div-div-eq-div-mul, pow-suc, le-div-iff-mul-le, one-le-pow, pow-le-pow-right, le-of-dvd, dvd-of-mod-eq-zero, add-zero, add-suc, le-refl, mul-le-mul, zero-div}
@@ -8,7 +8,7 @@ use lib.Pow.{mod-mod-pow, field}
 use lib.Dec.{lit≤}
 use Rattle.pyramid.specs.declared.Settings.{Settings}
 use Rattle.pyramid.specs.Sizes.{last, columnsAt, rowsAt, nodesAt, nodesTo, total}
-use Rattle.pyramid.specs.Lawful.{Side, Lawful}
+use Rattle.pyramid.specs.Lawful.{Side, Shaped}
 
 -- ---- one side
 
@@ -57,6 +57,14 @@ count-range {side} {depth} {l} h hl e =
     let least = last-least h l hl in
     (omega arith, omega arith, omega (arith, h .most))
 
+-- ---- the nodes of one level
+
+pub nodes-most : (s : Settings) → Shaped s → (l : ℕ) → l ≤ s .depth → nodesAt s l ≤ 16641
+nodes-most s shape l h =
+    let across : columnsAt s l ≤ 129 = count-range (shape .across) h refl .2 in
+    let along : rowsAt s l ≤ 129 = count-range (shape .along) h refl .2 in
+    mul-le-mul along across
+
 -- ---- the nodes of the levels together
 
 module _ (s : Settings) where
@@ -85,12 +93,12 @@ module _ (s t : Settings) (wide : s .columns ≤ t .columns) (tall : s .rows ≤
 largest : Settings
 largest = record { columns = 129; rows = 129; depth = 6; kernel = 3; bins = [] }
 
-pub nodesTo-most : (s : Settings) → Lawful s → (n : ℕ) → n ≤ 6 → nodesTo s n ≤ 22359
+pub nodesTo-most : (s : Settings) → Shaped s → (n : ℕ) → n ≤ 6 → nodesTo s n ≤ 22359
 unfolding largest
-nodesTo-most s law n h =
+nodesTo-most s shape n h =
     let most : nodesTo largest 6 ≤ 22359 = lit≤ (unfold nodesTo last in tt) in
-    omega (arith, nodesTo-mono s n 6 h, nodes-of-size s largest (law .across .most) (law .along .most) 6)
+    omega (arith, nodesTo-mono s n 6 h, nodes-of-size s largest (shape .across .most) (shape .along .most) 6)
 
-pub total-most : (s : Settings) → Lawful s → total s ≤ 22359
+pub total-most : (s : Settings) → Shaped s → total s ≤ 22359
 unfolding total
-total-most s law = nodesTo-most s law (s .depth) (law .deep)
+total-most s shape = nodesTo-most s shape (s .depth) (shape .deep)

@@ -28,7 +28,7 @@ module _ (s : Settings) (law : Lawful s) where
   -- EXPAND of two levels that have a level below them
   pub near-expanded : (l : ℕ) → suc l ≤ s .depth → (e : ℕ) (u v : Level) → NearAt (suc l) e u v → NearAt l (magnified (s .kernel) e) (expanded s l u) (expanded s l v)
   near-expanded l hl e u v close i j hi hj =
-      near-expand (law .kernel) (last (s .columns) (suc l)) (last (s .rows) (suc l)) e u v close (last-least (law .across) (suc l) hl) (last-least (law .along) (suc l) hl)
+      near-expand (law .shaped .kernel) (last (s .columns) (suc l)) (last (s .rows) (suc l)) e u v close (last-least (law .shaped .across) (suc l) hl) (last-least (law .shaped .along) (suc l) hl)
       i j (omega (arith, last-suc (s .columns) l)) (omega (arith, last-suc (s .rows) l))
 
   module _ (p : Level) (m : ℕ → Level) (indices : (l : ℕ) → l ≤ s .depth → (i j : ℕ) → i ≤ last (s .columns) l → j ≤ last (s .rows) l → m l i j ≡ index s p l i j) where

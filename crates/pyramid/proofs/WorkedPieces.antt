@@ -17,7 +17,7 @@ use Rattle.pyramid.specs.Pyramid.{indexOf, average, difference, index}
 use Rattle.pyramid.specs.Rebuilding.{valueOf, rebuild, clamp}
 use Rattle.pyramid.specs.Bound.{hundredths, magnified, tolerance, bound}
 use Rattle.pyramid.specs.Buffers.{raster, pixels, stack, start, readLevels}
-use Rattle.pyramid.specs.Refusals.{unless, first, settingsRefusal, buffersRefusal, valuesOk, codingRefusal, rebuildingRefusal}
+use Rattle.pyramid.specs.Refusals.{unless, first, shapeRefusal, settingsRefusal, buffersRefusal, valuesOk, codingRefusal, rebuildingRefusal}
 use Rattle.pyramid.specs.Calls.{leaves, coding, rebuilding}
 use Rattle.pyramid.specs.WorkedPieces.{WorkedPieces}
 
@@ -63,7 +63,7 @@ expand-right = round-at (negsuc 79) 400 (pos 0) tt
 ruleset answers = (average-a, top-a, centre-a, others-a, rebuilt-a, corner-near, corner-side, corner-far, expand-left, expand-middle, expand-right)
 
 pub workedPieces : WorkedPieces
-unfolding sum allBelow all tabulate sideOk depthOk divides kernelOk slotOk sizeOk binsOk last nodesTo total weights weight reflect window reduce evenWeight expand indexOf average difference index valueOf rebuild clamp hundredths magnified tolerance bound raster pixels stack start readLevels unless first settingsRefusal buffersRefusal valuesOk codingRefusal rebuildingRefusal leaves coding rebuilding
+unfolding sum allBelow all tabulate sideOk depthOk divides kernelOk slotOk sizeOk binsOk last nodesTo total weights weight reflect window reduce evenWeight expand indexOf average difference index valueOf rebuild clamp hundredths magnified tolerance bound raster pixels stack start readLevels unless first shapeRefusal settingsRefusal buffersRefusal valuesOk codingRefusal rebuildingRefusal leaves coding rebuilding
 workedPieces = record {
   averageA = simp answers;
   differenceA = simp answers;

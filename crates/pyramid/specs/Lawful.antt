@@ -18,9 +18,13 @@ pub record Bin (n : ℕ) : Type 0 where
   pub least : 1 ≤ n
   pub most : n ≤ 255
 
-pub record Lawful (s : Settings) : Type 0 where
+-- the shape: all but the bins
+pub record Shaped (s : Settings) : Type 0 where
   pub deep : s .depth ≤ 6
   pub across : Side (s .columns) (s .depth)
   pub along : Side (s .rows) (s .depth)
   pub kernel : Kernel (s .kernel)
+
+pub record Lawful (s : Settings) : Type 0 where
+  pub shaped : Shaped s
   pub binned : (l : ℕ) → l ≤ s .depth → Bin (bin s l)

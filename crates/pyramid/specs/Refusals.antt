@@ -4,7 +4,7 @@ use mathlib.Core.Bool.{Bool, cond}
 use mathlib.Core.List.{List, [], _∷_}
 use Prim.Native.Nat.{ℕ, zero, suc, _*_}
 use lib.Dec.{leb, eqb}
-use lib.IntN.{ℤ, natAbs}
+use lib.IntN.{ℤ, pos, natAbs, _*ℤ_}
 use lib.ListN.{length}
 use Rattle.mathematics.specs.Tests.{all}
 use Rattle.pyramid.specs.declared.Settings.{Settings}
@@ -27,10 +27,18 @@ first (suc number ∷ later) = suc number
 abbrev pub limit : ℕ
 limit = 4096
 
+-- an index times its bin lies within ±4,096
+unfoldable pub indexOk : ℕ → ℤ → Bool
+indexOk n m = leb (natAbs (m *ℤ pos n)) limit
+
 module _ (s : Settings) where
-  -- 1: size, depth or divisibility; 2: the kernel; 3: a bin slot
+  -- 1: size, depth or divisibility; 2: the kernel
+  unfoldable pub shapeRefusal : ℕ
+  shapeRefusal = first (unless (sizeOk s) 1 ∷ unless (kernelOk (s .kernel)) 2 ∷ [])
+
+  -- these, then 3: a bin slot
   unfoldable pub settingsRefusal : ℕ
-  settingsRefusal = first (unless (sizeOk s) 1 ∷ unless (kernelOk (s .kernel)) 2 ∷ unless (binsOk s) 3 ∷ [])
+  settingsRefusal = first (shapeRefusal ∷ unless (binsOk s) 3 ∷ [])
 
   -- 5: picture length is not C × R; 6: level buffer length is not T; 7: work buffer shorter than T
   unfoldable pub buffersRefusal : (picture levels work : ℕ) → ℕ
@@ -40,6 +48,10 @@ module _ (s : Settings) where
   -- every index times its bin lies within ±4,096
   unfoldable pub valuesOk : List ℤ → Bool
   valuesOk levels = all (λ v. leb (natAbs v) limit) (allLevels s (λ l i j. valueOf s l (readLevels s levels l i j)))
+
+  -- a level buffer alone: settings, then 6 and 11
+  unfoldable pub levelsRefusal : List ℤ → ℕ
+  levelsRefusal levels = first (settingsRefusal ∷ unless (eqb (length levels) (total s)) 6 ∷ unless (valuesOk levels) 11 ∷ [])
 
   -- coding looks for 1, 2, 3, 5, 6, 7
   unfoldable pub codingRefusal : List ℕ → List ℤ → List ℤ → ℕ

@@ -5,7 +5,7 @@ ghost use mathlib.Core.Bool.{_&&_};
 ghost use Prim.Native.Nat.{_≤_, _<_, min};
 ghost use Rattle.pyramid.specs.Settings.{sideOk, kernelOk, slotOk, sizeOk, binsOk};
 ghost use Rattle.pyramid.specs.Depth.{deepest};
-ghost use Rattle.pyramid.specs.Refusals.{settingsRefusal};
+ghost use Rattle.pyramid.specs.Refusals.{shapeRefusal, settingsRefusal};
 
 fn lesser(a: u32, b: u32) -> u32
     ensures { λ r. ⌜ r ≡ min a b ⌝ }
@@ -86,9 +86,9 @@ fn bins_ok(s: Settings) -> bool
     true
 }
 
-// The number of the first rule that the settings break, or 0.
-pub fn settings_refusal(s: Settings) -> u16
-    ensures { λ r. ⌜ r ≡ settingsRefusal s ⌝ }
+// The number of the first rule that the shape breaks, or 0. The bins are not looked at.
+pub fn shape_refusal(s: Settings) -> u16
+    ensures { λ r. ⌜ r ≡ shapeRefusal s ⌝ }
 {
     if !size_ok(s) {
         return 1;
@@ -96,8 +96,19 @@ pub fn settings_refusal(s: Settings) -> u16
     if !kernel_ok(s.kernel) {
         return 2;
     }
-    if !bins_ok(s) {
+    0
+}
+
+// The number of the first rule that the settings break, or 0.
+pub fn settings_refusal(s: Settings) -> u16
+    ensures { λ r. ⌜ r ≡ settingsRefusal s ⌝ }
+{
+    let refusal = shape_refusal(s);
+    if refusal == 0 {
+        if bins_ok(s) {
+            return 0;
+        }
         return 3;
     }
-    0
+    refusal
 }

@@ -3,8 +3,7 @@ use crate::Settings;
 ghost use mathlib.Core.Path.{_≡_};
 ghost use mathlib.Core.List.{map};
 ghost use Prim.Native.Nat.{_+_, _≤_};
-ghost use lib.Dec.{leb};
-ghost use lib.IntN.{pos, natAbs, _+ℤ_, _-ℤ_, _*ℤ_};
+ghost use lib.IntN.{pos, _+ℤ_, _-ℤ_, _*ℤ_};
 ghost use lib.ListN.{length, getD};
 ghost use Rattle.mathematics.specs.Tests.{all};
 ghost use Rattle.mathematics.specs.Tables.{tabulate};
@@ -12,7 +11,7 @@ ghost use Rattle.mathematics.specs.Splices.{splice};
 ghost use Rattle.quantizer.specs.Bins.{binIndex};
 ghost use Rattle.pyramid.specs.Rebuilding.{clamp};
 ghost use Rattle.pyramid.specs.Rows.{Small, IndicesWithin, ValuesWithin};
-ghost use Rattle.pyramid.specs.Refusals.{limit};
+ghost use Rattle.pyramid.specs.Refusals.{indexOk};
 
 // The pixels as numbers, from `at` on.
 pub fn load(picture: &[u8], work: &mut [i32], at: usize)
@@ -83,7 +82,7 @@ pub fn value_row(indices: &[i16], predicted: &[i32], bin: u16, work: &mut [i32],
 
 // Every index of a level times its bin lies within 4,096 of 0.
 pub fn values_within(indices: &[i16], bin: u16) -> bool
-    ensures { λ r. ⌜ r ≡ all (λ m. leb (natAbs (m *ℤ pos bin)) limit) (now (indices .entry)) ⌝ }
+    ensures { λ r. ⌜ r ≡ all (indexOk bin) (now (indices .entry)) ⌝ }
 {
     let n = bin as i32;
     let mut i = 0;

@@ -2,7 +2,7 @@
 use crate::Settings;
 ghost use mathlib.Core.Path.{_≡_};
 ghost use Prim.Native.Nat.{_*_, _≤_};
-ghost use Rattle.pyramid.specs.Lawful.{Lawful};
+ghost use Rattle.pyramid.specs.Lawful.{Shaped};
 ghost use Rattle.pyramid.specs.Sizes.{last, columnsAt, rowsAt, nodesTo, total};
 ghost use Rattle.pyramid.specs.Buffers.{start};
 
@@ -17,7 +17,7 @@ fn last_at(side: u16, level: u16) -> usize
 }
 
 pub fn columns_at(s: Settings, level: u16) -> usize
-    requires { ⌜ Lawful s ⌝ }
+    requires { ⌜ Shaped s ⌝ }
     requires { ⌜ level ≤ s .depth ⌝ }
     ensures { λ r. ⌜ (r ≡ columnsAt s level) × (2 ≤ r) × (r ≤ 129) ⌝ }
 {
@@ -25,7 +25,7 @@ pub fn columns_at(s: Settings, level: u16) -> usize
 }
 
 pub fn rows_at(s: Settings, level: u16) -> usize
-    requires { ⌜ Lawful s ⌝ }
+    requires { ⌜ Shaped s ⌝ }
     requires { ⌜ level ≤ s .depth ⌝ }
     ensures { λ r. ⌜ (r ≡ rowsAt s level) × (2 ≤ r) × (r ≤ 129) ⌝ }
 {
@@ -34,7 +34,7 @@ pub fn rows_at(s: Settings, level: u16) -> usize
 
 // The nodes of levels 0 to n.
 fn nodes_to(s: Settings, n: u16) -> usize
-    requires { ⌜ Lawful s ⌝ }
+    requires { ⌜ Shaped s ⌝ }
     requires { ⌜ n ≤ s .depth ⌝ }
     ensures { λ r. ⌜ (r ≡ nodesTo s n) × (r ≤ 22359) ⌝ }
 {
@@ -49,7 +49,7 @@ fn nodes_to(s: Settings, n: u16) -> usize
 
 // T, the number of nodes of levels 0 to the depth.
 pub fn total(s: Settings) -> usize
-    requires { ⌜ Lawful s ⌝ }
+    requires { ⌜ Shaped s ⌝ }
     ensures { λ r. ⌜ (r ≡ total s) × (r ≤ 22359) ⌝ }
 {
     nodes_to(s, s.depth)
@@ -57,7 +57,7 @@ pub fn total(s: Settings) -> usize
 
 // Where a level starts in a buffer of all levels.
 pub fn start_of(s: Settings, level: u16) -> usize
-    requires { ⌜ Lawful s ⌝ }
+    requires { ⌜ Shaped s ⌝ }
     requires { ⌜ level ≤ s .depth ⌝ }
     ensures { λ r. ⌜ (r ≡ start s level) × (r ≤ 22359) ⌝ }
 {

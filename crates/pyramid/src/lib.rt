@@ -1,12 +1,12 @@
 // The picture pyramid of document 01: settings, coding, rebuilding, the bound and the deepest depth.
 ghost use mathlib.Core.Path.{_≡_};
-ghost use Rattle.pyramid.specs.Answers.{nodesAnswer, boundsAnswer, deepestAnswer};
+ghost use Rattle.pyramid.specs.Answers.{nodesAnswer, shapeAnswer, levelSizeAnswer, boundsAnswer, deepestAnswer};
 ghost use mathlib.Core.List.{[], _∷_};
 ghost use lib.Dec.{T};
 ghost use Rattle.pyramid.specs.Pyramid.{average, index};
 ghost use Rattle.pyramid.specs.Rebuilding.{rebuilt, clamp};
 ghost use Rattle.pyramid.specs.Buffers.{raster, pixels, allLevels, readLevels};
-ghost use Rattle.pyramid.specs.Refusals.{first, settingsRefusal, buffersRefusal, valuesOk};
+ghost use Rattle.pyramid.specs.Refusals.{first, settingsRefusal, buffersRefusal, valuesOk, levelsRefusal};
 ghost use Rattle.pyramid.specs.Calls.{inWork, coding, rebuilding};
 ghost use Rattle.pyramid.specs.Accepted.{Accepted};
 
@@ -19,6 +19,9 @@ mod expanding;
 mod layering;
 mod taps;
 
+// The number of the first rule that settings break: 1 to 3, or 0.
+pub use checking::settings_refusal;
+
 // Columns, rows, depth, kernel and the bin of each level in its slot (document 01, "Settings").
 pub struct Settings {
     pub columns: u16,
@@ -26,6 +29,13 @@ pub struct Settings {
     pub depth: u16,
     pub kernel: u16,
     pub bins: [u16; 7],
+}
+
+// The columns and rows of a level, or a refusal and 0 by 0.
+pub struct LevelSize {
+    pub refusal: u16,
+    pub columns: u16,
+    pub rows: u16,
 }
 
 // The number of nodes of all levels, T, or a refusal and 0.
@@ -64,6 +74,52 @@ pub fn total_nodes(s: Settings) -> Nodes
     }
 }
 
+// T of a shape, whose bins are not looked at. Refused: 1, 2.
+pub fn shape_nodes(s: Settings) -> Nodes
+    ensures { λ r. ⌜ r ≡ shapeAnswer s ⌝ }
+{
+    let refusal = checking::shape_refusal(s);
+    if refusal != 0 {
+        return Nodes {
+            refusal: refusal,
+            nodes: 0,
+        };
+    }
+    let t = counting::total(s);
+    Nodes {
+        refusal: 0,
+        nodes: t as u16,
+    }
+}
+
+// The columns and rows of a level of a shape; 0 by 0 for a level above the depth. Refused: 1, 2.
+pub fn level_size(s: Settings, level: u16) -> LevelSize
+    ensures { λ r. ⌜ r ≡ levelSizeAnswer s level ⌝ }
+{
+    let refusal = checking::shape_refusal(s);
+    if refusal != 0 {
+        return LevelSize {
+            refusal: refusal,
+            columns: 0,
+            rows: 0,
+        };
+    }
+    if s.depth < level {
+        return LevelSize {
+            refusal: 0,
+            columns: 0,
+            rows: 0,
+        };
+    }
+    let columns = counting::columns_at(s, level);
+    let rows = counting::rows_at(s, level);
+    LevelSize {
+        refusal: 0,
+        columns: columns as u16,
+        rows: rows as u16,
+    }
+}
+
 // How far a rebuilt value of each level can lie from its average. Refused: 1 to 3.
 pub fn level_bounds(s: Settings) -> Bounds
     ensures { λ r. ⌜ r ≡ boundsAnswer s ⌝ }
@@ -95,6 +151,23 @@ pub fn deepest_depth(columns: u16, rows: u16) -> Deepest
         refusal: 1,
         depth: 0,
     }
+}
+
+// Whether rebuilding can take a level buffer, whatever the others are. Refused: 1, 2, 3, 6, 11.
+pub fn levels_refusal(s: Settings, levels: &[i16]) -> u16
+    ensures { λ r. ⌜ r ≡ levelsRefusal s (now (levels .entry)) ⌝ }
+{
+    let refusal = checking::settings_refusal(s);
+    if refusal != 0 {
+        return refusal;
+    }
+    if levels.len() == counting::total(s) {
+        if layering::values_ok(s, levels) {
+            return 0;
+        }
+        return 11;
+    }
+    6
 }
 
 // The first refusal of settings and of the buffers' lengths, or 0.

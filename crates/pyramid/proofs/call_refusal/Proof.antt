@@ -45,14 +45,14 @@ cast-if2-2 : tie.Need-cast-if2-2
 cast-if2-2 c = search needs
 
 mul-if2 : tie.Need-mul-if2
-mul-if2 c = let l = law (c .before .before) in omega (arith, mul-le-mul (l .along .most) (l .across .most))
+mul-if2 c = let l = law (c .before .before) in omega (arith, mul-le-mul (l .shaped .along .most) (l .shaped .across .most))
 
 returns-2 : tie.Need-returns-2
 unfolding buffersRefusal unless first
 returns-2 c = rw (settings-hold (c .before .before .before), ne-eqb _ _ (c .if2 .taken))
 
 total-requires : tie.Need-total-requires
-total-requires c κs = law (c .before .before .before)
+total-requires c κs = law (c .before .before .before) .shaped
 
 returns-3 : tie.Need-returns-3
 unfolding unless first

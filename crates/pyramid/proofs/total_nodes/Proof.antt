@@ -15,7 +15,7 @@ unfolding nodesAnswer
 returns c = rw (← c .before .settings-refusal .ensures, leaves-kept _ _ _ (c .if1 .taken))
 
 total-requires : tie.Need-total-requires
-total-requires c κs = accepted-settings _ (sym (c .before .settings-refusal .ensures) ∙ c .if1 .left)
+total-requires c κs = accepted-settings _ (sym (c .before .settings-refusal .ensures) ∙ c .if1 .left) .shaped
 
 cast-t5 : tie.Need-cast-t5
 cast-t5 c = search needs

@@ -2,20 +2,19 @@
 use Prim.Native.Nat.{_-_}
 use borrow.Author.Needs.{needs, sfits-of}
 use denote.Ref.{now}
-use lib.Dec.{leb}
-use lib.IntN.{pos, natAbs, _*ℤ_}
+use lib.IntN.{pos}
 use lib.ListN.{length, getD}
 use mir.Syntax.{w16}
 use mir.Val.{SFits}
 use Rattle.mathematics.proofs.Held.{short-fits}
 use Rattle.mathematics.proofs.Tests.{Passing, passing-start, passing-next, passing-fails, passing-end}
-use Rattle.pyramid.specs.Refusals.{limit}
+use Rattle.pyramid.specs.Refusals.{indexOk}
 use Rattle.pyramid.proofs.Copies.{value-fits, value-low, value-high, value-within}
 use Rattle.pyramid.proofs.copying.values_within.Statement.{statement}
 use Rattle.pyramid.proofs.copying.values_within.Tie as tie
 
 abbrev Inv-loop : tie.InvT-loop
-Inv-loop indices bin n i₀ i = Passing (λ m. leb (natAbs (m *ℤ pos bin)) limit) indices i
+Inv-loop indices bin n i₀ i = Passing (indexOk bin) indices i
 
 abbrev μ-loop : tie.MeasureT-loop
 μ-loop indices bin n i₀ i = length indices - i

@@ -8,7 +8,7 @@ use native.Mathlib.Omega.{arith}
 use borrow.Author.Needs.{needs}
 use Rattle.pyramid.specs.declared.Settings.{Settings}
 use Rattle.pyramid.specs.Sizes.{columnsAt, rowsAt, nodesTo}
-use Rattle.pyramid.specs.Lawful.{Lawful}
+use Rattle.pyramid.specs.Lawful.{Shaped}
 use Rattle.pyramid.proofs.Sizes.{nodesTo-most}
 use Rattle.pyramid.proofs.counting.nodes_to.Statement.{statement}
 use Rattle.pyramid.proofs.counting.nodes_to.Tie as tie
@@ -18,9 +18,9 @@ record Counted (s : Settings) (n l t : ℕ) : Type 0 where
   nodes : t ≡ nodesTo s l
   few : t ≤ 22359
 
-module _ {s : Settings} {n : ℕ} (law : Lawful s) (h : n ≤ s .depth) where
+module _ {s : Settings} {n : ℕ} (shape : Shaped s) (h : n ≤ s .depth) where
   counted : {l t : ℕ} → l ≤ n → t ≡ nodesTo s l → Counted s n l t
-  counted {l} hl e = record { deep = hl; nodes = e; few = omega (arith, nodesTo-most s law l (omega (arith, law .deep))) }
+  counted {l} hl e = record { deep = hl; nodes = e; few = omega (arith, nodesTo-most s shape l (omega (arith, shape .deep))) }
 
   counted-start : {r c : ℕ} → r ≡ rowsAt s 0 → c ≡ columnsAt s 0 → Counted s n 0 (r * c)
   unfolding nodesTo

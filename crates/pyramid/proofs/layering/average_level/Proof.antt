@@ -20,7 +20,7 @@ reduce-level-requires : tie.Need-reduce-level-requires
 reduce-level-requires c κs =
     let t = c .before .before .before .before in
     let a = t .args in (
-      t .pre .0 .kernel,
+      t .pre .0 .shaped .kernel,
       rw (c .before .before .before .start-of .ensures .0, c .before .before .columns-at .ensures .0, c .before .rows-at .ensures .0)
           (reducible (a .s) (t .pre .0) (now (a .work)) (t .pre .1 .0 .1) (a .l) (t .pre .1 .0 .0) (t .pre .1 .1)),
     )

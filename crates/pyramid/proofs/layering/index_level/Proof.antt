@@ -79,16 +79,16 @@ mul-bin : tie.Need-mul-bin Inv-loop μ-loop
 mul-bin c = search needs
 
 array-read-bin : tie.Need-array-read-bin Inv-loop μ-loop
-array-read-bin c = omega (arith, c .before .pre .0 .deep, c .before .pre .1 .deep)
+array-read-bin c = omega (arith, c .before .pre .0 .shaped .deep, c .before .pre .1 .deep)
 
 columns-at-requires : tie.Need-columns-at-requires Inv-loop μ-loop
-columns-at-requires c κs = (c .before .pre .0, c .before .pre .1 .deep)
+columns-at-requires c κs = (c .before .pre .0 .shaped, c .before .pre .1 .deep)
 
 rows-at-requires : tie.Need-rows-at-requires Inv-loop μ-loop
-rows-at-requires c κs = (c .before .before .pre .0, c .before .before .pre .1 .deep)
+rows-at-requires c κs = (c .before .before .pre .0 .shaped, c .before .before .pre .1 .deep)
 
 start-of-requires : tie.Need-start-of-requires Inv-loop μ-loop
-start-of-requires c κs = (c .before .before .before .pre .0, c .before .before .before .pre .1 .deep)
+start-of-requires c κs = (c .before .before .before .pre .0 .shaped, c .before .before .before .pre .1 .deep)
 
 loop-holds : tie.Need-loop-holds Inv-loop μ-loop
 loop-holds c = record { rendered = rendering-start _ _ _ _ _; place = omega (arith, c .start-of .ensures .0); roomy = roomy-zeros }
@@ -105,7 +105,7 @@ predict-row-requires c κs =
 -- from where the row is there
 module _ (c : tie.After-row2 Inv-loop μ-loop) where
   near : n (c .before) .before .loop .at + n (c .before) .before .before .before .before .columns-at .result ≤ 22359
-  near = let i = n (c .before) in omega (arith, room i, total-most (t (l i) .args .s) (t (l i) .pre .0))
+  near = let i = n (c .before) in omega (arith, room i, total-most (t (l i) .args .s) (t (l i) .pre .0 .shaped))
 
 add-to : tie.Need-add-to Inv-loop μ-loop
 add-to c = record { fits = omega (arith, near c) }

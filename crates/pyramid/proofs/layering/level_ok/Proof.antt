@@ -1,36 +1,14 @@
 -- `pyramid::layering::level_ok` meets its contract: the part of the buffer that is tested holds the level. Assumes nothing.
-use mathlib.Core.Path.{_≡_, sym, ap, _∙_}
-use mathlib.Core.Bool.{Bool}
-use mathlib.Core.List.{List}
-use Prim.Native.Nat.{ℕ, _+_, _*_, _≤_}
+use mathlib.Core.Path.{_∙_}
+use Prim.Native.Nat.{_+_, _*_, _≤_}
 use native.Mathlib.Omega.{arith}
 use borrow.Author.Needs.{needs}
 use denote.Ref.{now}
-use lib.Dec.{leb}
-use lib.IntN.{ℤ, pos, natAbs, _*ℤ_}
 use lib.ListN.{length}
-use Rattle.mathematics.specs.Tests.{all}
-use Rattle.pyramid.specs.declared.Settings.{Settings}
-use Rattle.pyramid.specs.Settings.{bin}
-use Rattle.pyramid.specs.Sizes.{columnsAt, rowsAt}
-use Rattle.pyramid.specs.Buffers.{levelRaster, readLevels}
-use Rattle.pyramid.specs.Rebuilding.{valueOf}
-use Rattle.pyramid.specs.Refusals.{limit}
-use Rattle.pyramid.proofs.LevelParts.{level-inside, level-end, given-part, map-raster, all-map}
+use Rattle.pyramid.proofs.LevelParts.{level-inside, level-end, given-part}
+use Rattle.pyramid.proofs.CheckedLevels.{part-values}
 use Rattle.pyramid.proofs.layering.level_ok.Statement.{statement}
 use Rattle.pyramid.proofs.layering.level_ok.Tie as tie
-
-abbrev within : ℤ → Bool
-within v = leb (natAbs v) limit
-
--- the values of a part's indices are those of the level that it holds
-part-values : (s : Settings) (levels : List ℤ) (l : ℕ) {p : List ℤ} → p ≡ levelRaster s (readLevels s levels) l
-    → all (λ m. within (m *ℤ pos (bin s l))) p ≡ all within (levelRaster s (λ l i j. valueOf s l (readLevels s levels l i j)) l)
-unfolding valueOf
-part-values s levels l e =
-    rw e
-    (sym (all-map (valueOf s l) within (levelRaster s (readLevels s levels) l))
-    ∙ ap (all within) (map-raster (valueOf s l) (columnsAt s l) (rowsAt s l) (readLevels s levels l)))
 
 module _ (c : tie.After-columns-at) where
   abbrev given : tie.Start

@@ -48,7 +48,7 @@ module _ (r : tie.After-rows-at) where
   inside = omega (arith, before-all, t .pre .1 .0 .2)
 
   near : t .args .from ≤ 22359
-  near = omega (arith, before-all, total-most (t .args .s) (t .pre .0))
+  near = omega (arith, before-all, total-most (t .args .s) (t .pre .0 .shaped))
 
 columns-at-requires : tie.Need-columns-at-requires
 columns-at-requires c κs = search needs
@@ -90,7 +90,7 @@ expand-row-requires : tie.Need-expand-row-requires
 expand-row-requires c κs =
     let r = c .before .before in
     let a = t r .args in (
-      t r .pre .0 .kernel,
+      t r .pre .0 .shaped .kernel,
       (
         below-source (a .s) (a .l) (a .j) (now (a .work)) (t r .pre .0) (t r .pre .1 .0 .2) (below r) (place r) (end r) (along r) (across r) 524288 (t r .pre .1 .1),
         below-sizes (a .s) (a .l) (a .j) (now (a .work)) (t r .pre .0) (t r .pre .1 .0 .2) (below r) (place r) (end r) (along r) (across r) (length (now (a .row))) (t r .pre .1 .0 .1) (t r .pre .1 .0 .3),
