@@ -1,7 +1,9 @@
 -- Settings that pass the tests are lawful. Assumes nothing.
+use mathlib.Core.Path.{_≡_}
 use mathlib.Core.Bool.{_&&_}
-use Prim.Native.Nat.{ℕ, _-_, _%_, _^_, _≤_}
+use Prim.Native.Nat.{ℕ, _-_, _%_, _^_, _≤_, _<_}
 use native.Mathlib.Omega.{arith}
+use borrow.Author.Tests.{lt-leb}
 use lib.Dec.{T, leb, eqb, leb→le, eqb→eq, le→leb}
 use Rattle.mathematics.proofs.Tests.{both, then, below-at}
 use Rattle.pyramid.specs.declared.Settings.{Settings}
@@ -19,6 +21,10 @@ unfolding slotOk
 bin-law depth l n h t =
     let (least, most) = both (leb 1 n) (leb n 255) (then (leb l depth) (leb 1 n && leb n 255) (eqb n 0) (le→leb l depth h) t) in
     record { least = leb→le 1 n least; most = leb→le n 255 most }
+
+empty-law : (depth l n : ℕ) → depth < l → T (slotOk depth l n) → n ≡ 0
+unfolding slotOk
+empty-law depth l n h t = let u : T (eqb n 0) = rw (lt-leb l depth h) at t in eqb→eq n 0 u
 
 module _ (s : Settings) where
   pub shaped : T (sizeOk s) → T (kernelOk (s .kernel)) → Shaped s
@@ -43,3 +49,7 @@ module _ (s : Settings) where
         shaped = shape;
         binned = λ l h. bin-law (s .depth) l (bin s l) h (below-at 7 (λ l. slotOk (s .depth) l (bin s l)) bins l (omega (arith, shape .deep)));
       }
+
+  pub slot-empty : T (binsOk s) → (l : ℕ) → l < 7 → s .depth < l → bin s l ≡ 0
+  unfolding binsOk
+  slot-empty bins l h k = empty-law (s .depth) l (bin s l) k (below-at 7 (λ l. slotOk (s .depth) l (bin s l)) bins l h)

@@ -1,5 +1,5 @@
 -- What an accepted call says of its arguments, and what is left in a buffer. Assumes nothing.
-use mathlib.Core.Path.{_≡_, refl}
+use mathlib.Core.Path.{_≡_, refl, _∙_}
 use mathlib.Core.Bool.{Bool, true, false}
 use mathlib.Core.List.{List, [], _∷_, _++_}
 use Prim.Native.Nat.{ℕ, zero, suc, _*_}
@@ -43,12 +43,17 @@ first-later [] later e = refl
 first-later (zero ∷ xs) later e = first-later xs later e
 first-later (suc n ∷ xs) later e = absurd (omega arith)
 
+pub first-last : (x : ℕ) → first (x ∷ []) ≡ x
+unfolding first
+first-last zero = refl
+first-last (suc n) = refl
+
 only : (x : ℕ) → first (x ∷ 0 ∷ []) ≡ x
 unfolding first
 only zero = refl
 only (suc n) = refl
 
-unless-none : (holds : Bool) (number : ℕ) → unless holds (suc number) ≡ 0 → T holds
+pub unless-none : (holds : Bool) (number : ℕ) → unless holds (suc number) ≡ 0 → T holds
 unfolding unless
 unless-none true number e = tt
 unless-none false number e = absurd (omega arith)
@@ -70,6 +75,17 @@ module _ (s : Settings) where
   accepted-settings e =
       let (shape, e₃) = first-none _ _ e in
       lawful s (accepted-shape shape) (unless-none (binsOk s) 2 (first-none _ _ e₃ .0))
+
+  -- the settings' refusal is the shape's, and then that of the bins
+  pub settings-parts : settingsRefusal s ≡ 0 → (shapeRefusal s ≡ 0) × T (binsOk s)
+  unfolding settingsRefusal
+  settings-parts e =
+      let (shape, e₃) = first-none _ _ e in
+      (shape, unless-none (binsOk s) 2 (first-none _ _ e₃ .0))
+
+  pub settings-bins : shapeRefusal s ≡ 0 → settingsRefusal s ≡ unless (binsOk s) 3
+  unfolding settingsRefusal
+  settings-bins e = first-skip _ _ e ∙ first-last _
 
   accepted-buffers : (picture levels work : ℕ) → buffersRefusal s picture levels work ≡ 0 → Sized s picture levels work
   unfolding buffersRefusal
