@@ -35,3 +35,4 @@ pub mod Pictures
 pub mod SamePictures
 pub mod LoadedPictures
 pub mod ValueLevels
+pub mod ShapeAnswers

@@ -1,0 +1,46 @@
+-- What the calls on a shape answer where it is lawful: the converse of the tests, a level's size, T. Assumes nothing.
+use mathlib.Core.Path.{_≡_, refl}
+use Prim.Native.Nat.{ℕ, _*_, _≤_}
+use borrow.Author.Tests.{le-leb, eq-eqb}
+use Rattle.pyramid.specs.declared.Settings.{Settings}
+use Rattle.pyramid.specs.declared.LevelSize.{LevelSize}
+use Rattle.pyramid.specs.declared.Nodes.{Nodes}
+use Rattle.pyramid.specs.Settings.{sideOk, depthOk, divides, kernelOk, sizeOk}
+use Rattle.pyramid.specs.Sizes.{columnsAt, rowsAt, nodesAt, total}
+use Rattle.pyramid.specs.Lawful.{Shaped}
+use Rattle.pyramid.specs.Calls.{leaves}
+use Rattle.pyramid.specs.Refusals.{unless, first, shapeRefusal}
+use Rattle.pyramid.specs.Answers.{levelSizeAnswer, shapeAnswer}
+use Rattle.pyramid.proofs.Sizes.{nodes-most}
+
+pub shape-accepted : (s : Settings) → Shaped s → shapeRefusal s ≡ 0
+unfolding shapeRefusal sizeOk sideOk depthOk divides kernelOk unless first
+shape-accepted s shape =
+    rw (
+      le-leb _ _ (shape .across .least),
+      le-leb _ _ (shape .across .most),
+      le-leb _ _ (shape .along .least),
+      le-leb _ _ (shape .along .most),
+      le-leb _ _ (shape .deep),
+      eq-eqb _ _ (shape .across .whole),
+      eq-eqb _ _ (shape .along .whole),
+      le-leb _ _ (shape .kernel .least),
+      le-leb _ _ (shape .kernel .most),
+    )
+
+module _ (s : Settings) (level : ℕ) (shape : Shaped s) (h : level ≤ s .depth) where
+  level-size : levelSizeAnswer s level ≡ record { refusal = 0; columns = columnsAt s level; rows = rowsAt s level }
+  unfolding levelSizeAnswer leaves
+  level-size = rw (shape-accepted s shape, le-leb level (s .depth) h)
+
+  pub level-nodes : (size : LevelSize) → size ≡ levelSizeAnswer s level
+      → (size .rows * size .columns ≡ nodesAt s level) × (size .rows * size .columns ≤ 16641)
+  level-nodes size e = rw (e, level-size) (refl, nodes-most s shape level h)
+
+pub shape-answer : (s : Settings) (answer : Nodes) → answer ≡ shapeAnswer s → answer .refusal ≡ shapeRefusal s
+unfolding shapeAnswer
+shape-answer s answer e = rw e
+
+pub shape-total : (s : Settings) (answer : Nodes) → answer ≡ shapeAnswer s → Shaped s → answer .nodes ≡ total s
+unfolding shapeAnswer leaves
+shape-total s answer e shape = rw (e, shape-accepted s shape)
