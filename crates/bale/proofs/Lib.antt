@@ -1,0 +1,16 @@
+pub mod WordLaws
+pub mod Readings
+pub mod Stands
+pub mod WordLists
+pub mod Sections
+pub mod LevelTrips
+pub mod ReadingTrips
+pub mod FileLengths
+pub mod AcceptedFiles
+pub mod SettingsTrips
+pub mod RoundTrips
+pub mod SectionTests
+pub mod Checks
+pub mod Writings
+pub mod Pieces
+pub mod Answers

@@ -1,0 +1,63 @@
+-- `bale::checking::body_refusal` meets its contract: section by section. Assumes nothing.
+use mathlib.Core.Path.{_∙_}
+use borrow.Author.Needs.{needs}
+use Rattle.bale.specs.Reader.{bodyRefusal}
+use Rattle.bale.proofs.Checks.{stop, skip, second, depth-in, levels-in}
+use Rattle.bale.proofs.checking.body_refusal.Statement.{statement}
+use Rattle.bale.proofs.checking.body_refusal.Tie as tie
+
+bins-section-refusal-requires : tie.Need-bins-section-refusal-requires
+bins-section-refusal-requires c κs = search needs
+
+returns : tie.Need-returns
+unfolding bodyRefusal
+returns c = stop _ (c .before .bins-section-refusal .ensures) (c .if1 .taken)
+
+readings-section-refusal-requires : tie.Need-readings-section-refusal-requires
+readings-section-refusal-requires c κs = search needs
+
+returns-2 : tie.Need-returns-2
+unfolding bodyRefusal
+returns-2 c =
+    let readings = c .before in
+    let binned = readings .before in
+    let bins = binned .before in
+    stop _ (readings .readings-section-refusal .ensures ∙ rw (depth-in _ _ (bins .before .before .pre .0))) (c .if2 .taken)
+    ∙ skip _ (bins .bins-section-refusal .ensures) (binned .if1 .left)
+
+cast-level-sections-refusal : tie.Need-cast-level-sections-refusal
+cast-level-sections-refusal c = search needs
+
+mul-level-sections-refusal : tie.Need-mul-level-sections-refusal
+mul-level-sections-refusal c = search needs
+
+add-level-sections-refusal : tie.Need-add-level-sections-refusal
+add-level-sections-refusal c = search needs
+
+level-sections-refusal-requires : tie.Need-level-sections-refusal-requires
+level-sections-refusal-requires c κs = search needs
+
+returns-3 : tie.Need-returns-3
+unfolding bodyRefusal
+returns-3 c =
+    let noted = c .before .before in
+    let readings = noted .before in
+    let binned = readings .before in
+    let bins = binned .before in
+    let e = bins .before .before .pre .0 in
+    second (readings .readings-section-refusal .ensures ∙ rw (depth-in _ _ e)) (noted .if2 .left) (levels-in _ _ e (c .level-sections-refusal .ensures))
+    ∙ skip _ (bins .bins-section-refusal .ensures) (binned .if1 .left)
+
+pub body-refusal-spec : {M : Type 1} → statement M
+body-refusal-spec =
+    tie.close
+    (tie.spec
+    bins-section-refusal-requires
+    returns
+    readings-section-refusal-requires
+    returns-2
+    cast-level-sections-refusal
+    mul-level-sections-refusal
+    add-level-sections-refusal
+    level-sections-refusal-requires
+    returns-3)

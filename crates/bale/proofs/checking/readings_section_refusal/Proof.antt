@@ -1,0 +1,62 @@
+-- `bale::checking::readings_section_refusal` meets its contract: the section's refusal, then that of each reading. Assumes nothing.
+use mathlib.Core.Path.{_∙_}
+use borrow.Author.Needs.{needs}
+use Rattle.bale.specs.Reader.{readingsSectionRefusal}
+use Rattle.bale.proofs.Checks.{stop, skip, second}
+use Rattle.bale.proofs.checking.readings_section_refusal.Statement.{statement}
+use Rattle.bale.proofs.checking.readings_section_refusal.Tie as tie
+
+mul-at : tie.Need-mul-at
+mul-at c = search needs
+
+add-at : tie.Need-add-at
+add-at c = search needs
+
+section-refusal-requires : tie.Need-section-refusal-requires
+section-refusal-requires c κs = search needs
+
+returns : tie.Need-returns
+unfolding readingsSectionRefusal
+returns c = stop _ (c .before .section-refusal .ensures) (c .if1 .taken)
+
+add-probe-at : tie.Need-add-probe-at
+add-probe-at c = search needs
+
+probe-at-requires : tie.Need-probe-at-requires
+probe-at-requires c κs = search needs
+
+returns-2 : tie.Need-returns-2
+unfolding readingsSectionRefusal
+returns-2 c =
+    let drier = c .before .before in
+    let whole = drier .before in
+    stop _ (rw (drier .probe-at .ensures)) (c .if2 .taken) ∙ skip _ (whole .before .section-refusal .ensures) (whole .if1 .left)
+
+add-probe-at-2 : tie.Need-add-probe-at-2
+add-probe-at-2 c = search needs
+
+probe-at-requires-2 : tie.Need-probe-at-requires-2
+probe-at-requires-2 c κs = search needs
+
+returns-3 : tie.Need-returns-3
+unfolding readingsSectionRefusal
+returns-3 c =
+    let drier = c .before .before .before in
+    let whole = drier .before in
+    second (rw (drier .probe-at .ensures)) (c .before .if2 .left) (rw (c .probe-at2 .ensures))
+    ∙ skip _ (whole .before .section-refusal .ensures) (whole .if1 .left)
+
+pub readings-section-refusal-spec : {M : Type 1} → statement M
+readings-section-refusal-spec =
+    tie.close
+    (tie.spec
+    mul-at
+    add-at
+    section-refusal-requires
+    returns
+    add-probe-at
+    probe-at-requires
+    returns-2
+    add-probe-at-2
+    probe-at-requires-2
+    returns-3)

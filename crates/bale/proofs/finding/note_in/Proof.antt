@@ -1,0 +1,39 @@
+-- `bale::finding::note_in` meets its contract: reading by reading. Assumes nothing.
+use borrow.Author.Needs.{needs}
+use Rattle.bale.specs.Reader.{noteIn}
+use Rattle.bale.proofs.finding.note_in.Statement.{statement}
+use Rattle.bale.proofs.finding.note_in.Tie as tie
+
+mul-at : tie.Need-mul-at
+mul-at c = search needs
+
+add-at : tie.Need-add-at
+add-at c = search needs
+
+add-probe-at : tie.Need-add-probe-at
+add-probe-at c = search needs
+
+probe-at-requires : tie.Need-probe-at-requires
+probe-at-requires c κs = search needs
+
+add-probe-at-2 : tie.Need-add-probe-at-2
+add-probe-at-2 c = search needs
+
+probe-at-requires-2 : tie.Need-probe-at-requires-2
+probe-at-requires-2 c κs = search needs
+
+returns : tie.Need-returns
+unfolding noteIn
+returns c = cc
+
+pub note-in-spec : {M : Type 1} → statement M
+note-in-spec =
+    tie.close
+    (tie.spec
+    mul-at
+    add-at
+    add-probe-at
+    probe-at-requires
+    add-probe-at-2
+    probe-at-requires-2
+    returns)
