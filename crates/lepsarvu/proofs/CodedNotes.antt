@@ -1,0 +1,83 @@
+-- The writer that is handed kinds and numbers for its readings: the first refusal, and what is left. Assumes nothing.
+use mathlib.Core.Path.{_≡_, sym, ap, _∙_}
+use mathlib.Core.List.{List, [], _∷_}
+use Prim.Native.Nat.{ℕ}
+use lib.IntN.{ℤ}
+use lib.ListN.{length}
+use Rattle.pyramid.specs.declared.Settings.{Settings}
+use Rattle.pyramid.specs.Refusals.{first, settingsRefusal}
+use Rattle.pyramid.specs.Calls.{leaves}
+use Rattle.pyramid.proofs.Refusals.{first-earlier, first-later, first-last, leaves-new, leaves-kept}
+use Rattle.bale.specs.declared.Note.{Note}
+use Rattle.bale.specs.declared.Probe.{Probe}
+use Rattle.bale.specs.declared.FileSize.{FileSize}
+use Rattle.bale.specs.Readings.{decode}
+use Rattle.bale.specs.Files.{fileSize}
+use Rattle.bale.specs.Calls.{writeRefusal, writing}
+use Rattle.lepsarvu.specs.Exports.{Coded, noteOf, codedRefusal, codedFile, codedSize}
+
+-- the two readings
+pub coded-note : (c : Coded) {drier press : Probe} → drier ≡ decode (c .drierKind) (c .drierNumber) → press ≡ decode (c .pressKind) (c .pressNumber)
+    → record { «before_drier» = drier .reading; «at_press» = press .reading } ≡ noteOf c
+unfolding noteOf
+coded-note c d p = rw (d, p)
+
+module _ (s : Settings) (c : Coded) (levels : List ℤ) (file : List ℕ) where
+  -- what is looked for before the writer looks
+  abbrev heads : List ℕ
+  heads = settingsRefusal s ∷ decode (c .drierKind) (c .drierNumber) .refusal ∷ decode (c .pressKind) (c .pressNumber) .refusal ∷ []
+
+  module _ {drier press : Probe} (d : drier ≡ decode (c .drierKind) (c .drierNumber)) (p : press ≡ decode (c .pressKind) (c .pressNumber)) where
+    module _ {m : ℕ} (e : m ≡ first (settingsRefusal s ∷ drier .refusal ∷ press .refusal ∷ [])) where
+      heads-are : m ≡ first heads
+      heads-are = e ∙ rw (d, p)
+
+      stops : (m ≡ 0 → ⊥) → m ≡ codedRefusal s c levels (length file)
+      unfolding codedRefusal
+      stops refused = heads-are ∙ sym (first-earlier heads (writeRefusal s (noteOf c) levels (length file) ∷ []) (λ z. refused (heads-are ∙ z)))
+
+      pub coded-stops : (m ≡ 0 → ⊥) → (old : ℕ)
+          → (m ≡ codedRefusal s c levels (length file)) × ((file ≡ codedFile s c levels file) × (old ≡ codedSize s c levels (length file) old))
+      unfolding codedFile codedSize
+      coded-stops refused old = (
+        stops refused,
+        (
+          rw (← stops refused) (sym (leaves-kept m (writing s (noteOf c) levels file .file) file refused)),
+          rw (← stops refused) (sym (leaves-kept m (fileSize s) old refused)),
+        ),
+      )
+
+      coded-is : m ≡ 0 → codedRefusal s c levels (length file) ≡ writeRefusal s (noteOf c) levels (length file)
+      unfolding codedRefusal
+      coded-is z = first-later heads (writeRefusal s (noteOf c) levels (length file) ∷ []) (sym heads-are ∙ z) ∙ first-last _
+
+      -- then the writer's answer and file
+      module _ (z : m ≡ 0) {note : Note} (n : note ≡ noteOf c) {answer : FileSize} {new : List ℕ} (a : answer ≡ writing s note levels file .answer)
+          (f : new ≡ writing s note levels file .file) where
+        pub refusal-is : answer .refusal ≡ codedRefusal s c levels (length file)
+        unfolding writing
+        refusal-is = ap (λ (x : FileSize). x .refusal) a ∙ rw n (sym (coded-is z))
+
+        pub written : answer .refusal ≡ 0 → (old : ℕ)
+            → (answer .refusal ≡ codedRefusal s c levels (length file)) × ((new ≡ codedFile s c levels file) × (answer .size ≡ codedSize s c levels (length file) old))
+        unfolding writing codedFile codedSize
+        written none old =
+            let r : writeRefusal s (noteOf c) levels (length file) ≡ 0 = sym (coded-is z) ∙ sym refusal-is ∙ none in (
+              refusal-is,
+              (
+                f ∙ rw (n, coded-is z) (sym (leaves-new _ _ _ r)),
+                ap (λ (x : FileSize). x .size) a ∙ rw (n, coded-is z) (leaves-new _ _ _ r ∙ sym (leaves-new _ _ _ r)),
+              ),
+            )
+
+        pub unwritten : (answer .refusal ≡ 0 → ⊥) → (old : ℕ)
+            → (answer .refusal ≡ codedRefusal s c levels (length file)) × ((new ≡ codedFile s c levels file) × (old ≡ codedSize s c levels (length file) old))
+        unfolding writing codedFile codedSize
+        unwritten refused old =
+            let r : writeRefusal s (noteOf c) levels (length file) ≡ 0 → ⊥ = λ x. refused (refusal-is ∙ coded-is z ∙ x) in (
+              refusal-is,
+              (
+                f ∙ rw (n, coded-is z) (leaves-kept _ _ _ r ∙ sym (leaves-kept _ _ _ r)),
+                rw (coded-is z) (sym (leaves-kept _ _ _ r)),
+              ),
+            )

@@ -1,0 +1,31 @@
+-- What is left where a caller lent a number or an array for a part of an answer. Assumes nothing.
+use mathlib.Core.Path.{_≡_, sym, ap, _∙_}
+use mathlib.Core.List.{[], _∷_}
+use Prim.Native.Nat.{ℕ}
+use Rattle.pyramid.specs.Calls.{leaves}
+use Rattle.pyramid.proofs.Refusals.{leaves-new, leaves-kept}
+use Rattle.bale.specs.declared.Note.{Note}
+use Rattle.bale.specs.declared.Code.{Code}
+use Rattle.bale.specs.Readings.{codeOf}
+use Rattle.lepsarvu.specs.Exports.{kindsOf, numbersOf}
+
+module _ {A B : Type 0} (refusal : A → ℕ) (field : A → B) {answer is : A} (e : answer ≡ is) (old : B) where
+  pub given : refusal answer ≡ 0 → (refusal answer ≡ refusal is) × (field answer ≡ leaves (refusal answer) (field is) old)
+  given z = (ap refusal e, ap field e ∙ sym (leaves-new (refusal answer) (field is) old z))
+
+  pub kept : (refusal answer ≡ 0 → ⊥) → (refusal answer ≡ refusal is) × (old ≡ leaves (refusal answer) (field is) old)
+  kept refused = (ap refusal e, sym (leaves-kept (refusal answer) (field is) old refused))
+
+  -- the same of what another function left
+  pub passed : {r : ℕ} {new : B} → r ≡ refusal answer → new ≡ leaves (refusal answer) (field answer) old → new ≡ leaves r (field is) old
+  passed z p = p ∙ rw (z, e)
+
+-- the kinds and numbers of two readings
+module _ (note : Note) {drier press : Code} (d : drier ≡ codeOf (note .«before_drier»)) (p : press ≡ codeOf (note .«at_press»)) where
+  pub kinds-are : drier .kind ∷ press .kind ∷ [] ≡ kindsOf note
+  unfolding kindsOf
+  kinds-are = rw (d, p)
+
+  pub numbers-are : drier .number ∷ press .number ∷ [] ≡ numbersOf note
+  unfolding numbersOf
+  numbers-are = rw (d, p)
