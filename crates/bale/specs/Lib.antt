@@ -5,3 +5,4 @@ pub mod Files
 pub mod Reader
 pub mod Calls
 pub mod RoundTrips
+pub mod Totality
