@@ -1,16 +1,16 @@
-"""Vectors of the bale file's reader."""
+"""Vectors of the bale file's readers and writer."""
 
 import struct
 from collections.abc import Iterator
 
-from bale import read_bale, write_bale
+from bale import Bale, FileCursor, Refused, read_bale, read_shape, write_bale
 from faulty_files import faulty_files
 from pictures import patterned_indices, picture_of, random_indices
 from piece_a import FILE_A
 from pyramid import code
 from random_files import damage, random_file, random_note
 from seeded import BIN_FAMILIES, SEED, Seeded, bins_of
-from settings import KERNELS, LARGEST_DEPTH, Settings, total_nodes
+from settings import ACCEPTED, KERNELS, LARGEST_DEPTH, Settings, total_nodes
 
 # Further whole sizes and depths.
 SHAPES = ((2, 3, 0), (3, 2, 0), (129, 2, 0), (2, 129, 0), (129, 3, 1), (3, 129, 1), (7, 11, 1), (13, 5, 2), (5, 21, 2),
@@ -20,9 +20,29 @@ BYTE_VALUES = (0, 1, 2, 3, 5, 16, 127, 128, 255)
 BYTE_STEPS = (1, -1)
 
 
+def shape_nodes(data: bytes) -> int:
+    """T of the shape section, or 0 where the reader refuses that section."""
+    try:
+        columns, rows, depth, _ = read_shape(FileCursor(data))
+    except Refused:
+        return 0
+    return total_nodes(columns, rows, depth)
+
+
+def answer_bytes(bale: Bale) -> bytes:
+    """An accepted file's settings (bins: slot 0 first), readings and indices, as the reference decoded them."""
+    settings = bale.settings
+    shape = (settings.columns, settings.rows, settings.depth, settings.kernel)
+    readings = b"".join(struct.pack("<BI", reading.kind, reading.bits) for reading in bale.note)
+    indices = struct.pack(f"<{len(bale.indices)}h", *bale.indices)
+    return struct.pack("<11H", *shape, *settings.bins) + readings + indices
+
+
 def case_bytes(data: bytes) -> bytes:
-    """One case: the answer of the reader that is lent no level buffer, the file's length, its bytes."""
-    return struct.pack("<HI", read_bale(data).refusal, len(data)) + data
+    """One case: the answer of the reader that is lent no level buffer, T, the file, and what an accepted one says."""
+    bale = read_bale(data)
+    head = struct.pack("<HHI", bale.refusal, shape_nodes(data), len(data))
+    return head + data + (answer_bytes(bale) if bale.refusal == ACCEPTED else b"")
 
 
 def written(settings: Settings, indices: list[int], numbers: Seeded) -> bytes:
