@@ -16,10 +16,6 @@ module _ {A B : Type 0} (refusal : A → ℕ) (field : A → B) {answer is : A} 
   pub kept : (refusal answer ≡ 0 → ⊥) → (refusal answer ≡ refusal is) × (old ≡ leaves (refusal answer) (field is) old)
   kept refused = (ap refusal e, sym (leaves-kept (refusal answer) (field is) old refused))
 
-  -- the same of what another function left
-  pub passed : {r : ℕ} {new : B} → r ≡ refusal answer → new ≡ leaves (refusal answer) (field answer) old → new ≡ leaves r (field is) old
-  passed z p = p ∙ rw (z, e)
-
 -- the kinds and numbers of two readings
 module _ (note : Note) {drier press : Code} (d : drier ≡ codeOf (note .«before_drier»)) (p : press ≡ codeOf (note .«at_press»)) where
   pub kinds-are : drier .kind ∷ press .kind ∷ [] ≡ kindsOf note

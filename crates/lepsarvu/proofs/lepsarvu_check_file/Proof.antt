@@ -1,9 +1,6 @@
 -- `lepsarvu::lepsarvu_check_file` meets its contract, which is that of `bale::check_file`. Assumes nothing.
 use mathlib.Core.Path.{ap, _∙_}
-use Prim.Native.Nat.{ℕ}
 use Rattle.bale.specs.declared.Bale.{Bale}
-use Rattle.lepsarvu.specs.Exports.{shapeOf, kindsOf, numbersOf}
-use Rattle.lepsarvu.proofs.Given.{passed}
 use borrow.Author.Needs.{needs}
 use Rattle.lepsarvu.proofs.lepsarvu_check_file.Statement.{statement}
 use Rattle.lepsarvu.proofs.lepsarvu_check_file.Tie as tie
@@ -18,19 +15,7 @@ returns : tie.Need-returns
 returns c =
     let e = c .before .before .before .before .before .check-file .ensures in
     let g = c .give .ensures in
-    let refusal : Bale → ℕ = λ a. a .refusal in (
-      g .0 ∙ ap refusal e,
-      (
-        passed refusal (λ (a : Bale). shapeOf (a .settings)) e _ (g .0) (g .1 .0),
-        (
-          passed refusal (λ (a : Bale). a .settings .bins) e _ (g .0) (g .1 .1 .0),
-          (
-            passed refusal (λ (a : Bale). kindsOf (a .note)) e _ (g .0) (g .1 .1 .1 .0),
-            passed refusal (λ (a : Bale). numbersOf (a .note)) e _ (g .0) (g .1 .1 .1 .1),
-          ),
-        ),
-      ),
-    )
+    (g .0 ∙ ap (λ (a : Bale). a .refusal) e, rw (g .0, ← e) (g .1))
 
 pub lepsarvu-check-file-spec : {M : Type 1} → statement M
 lepsarvu-check-file-spec = tie.close (tie.spec check-file-requires give-requires returns)

@@ -1,9 +1,6 @@
 -- `lepsarvu::lepsarvu_read_file` meets its contract, which is that of `bale::read_file`. Assumes nothing.
 use mathlib.Core.Path.{ap, _∙_}
-use Prim.Native.Nat.{ℕ}
 use Rattle.bale.specs.declared.Bale.{Bale}
-use Rattle.lepsarvu.specs.Exports.{shapeOf, kindsOf, numbersOf}
-use Rattle.lepsarvu.proofs.Given.{passed}
 use borrow.Author.Needs.{needs}
 use Rattle.lepsarvu.proofs.lepsarvu_read_file.Statement.{statement}
 use Rattle.lepsarvu.proofs.lepsarvu_read_file.Tie as tie
@@ -20,24 +17,8 @@ same-length c = search needs
 returns : tie.Need-returns
 returns c =
     let f = c .before .before .before .before .before .before .read-file .ensures in
-    let e = f .0 in
     let g = c .give .ensures in
-    let refusal : Bale → ℕ = λ a. a .refusal in (
-      g .0 ∙ ap refusal e,
-      (
-        f .1,
-        (
-          passed refusal (λ (a : Bale). shapeOf (a .settings)) e _ (g .0) (g .1 .0),
-          (
-            passed refusal (λ (a : Bale). a .settings .bins) e _ (g .0) (g .1 .1 .0),
-            (
-              passed refusal (λ (a : Bale). kindsOf (a .note)) e _ (g .0) (g .1 .1 .1 .0),
-              passed refusal (λ (a : Bale). numbersOf (a .note)) e _ (g .0) (g .1 .1 .1 .1),
-            ),
-          ),
-        ),
-      ),
-    )
+    (g .0 ∙ ap (λ (a : Bale). a .refusal) (f .0), (f .1, rw (g .0, ← f .0) (g .1)))
 
 pub lepsarvu-read-file-spec : {M : Type 1} → statement M
 lepsarvu-read-file-spec = tie.close (tie.spec read-file-requires give-requires same-length returns)
