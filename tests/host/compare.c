@@ -1,0 +1,63 @@
+/* Compares the library with plain C over cases from a seed: compare [SEED [SMALL [LARGE]]]
+ * A case is one draw of settings: every function is called on it, with lawful and unlawful buffers of its own. */
+#include <stdlib.h>
+
+#include "compare.h"
+
+enum { SMALL_CASES = 1000000, LARGE_CASES = 2000, SMALL_SIDE = 9, LARGE_SIDE = 129, ALL_SIDES = 140 };
+
+static void one_case(struct run *run)
+{
+    struct settings s = draw_settings(&run->draw, run->most_side);
+    run->tally.number++;
+    compare_deepest(run, s.columns, s.rows);
+    compare_settings(run, &s);
+    compare_coding(run, &s);
+    compare_rebuilding(run, &s);
+    compare_writing(run, &s);
+    compare_reading(run);
+}
+
+static void many_cases(struct run *run, uint64_t cases, uint32_t most_side)
+{
+    run->most_side = most_side;
+    for (uint64_t done = 0; done < cases; done++)
+        one_case(run);
+}
+
+/* The deepest depth of every size around the lawful ones. */
+static void all_sizes(struct run *run)
+{
+    for (uint16_t columns = 0; columns < ALL_SIDES; columns++)
+        for (uint16_t rows = 0; rows < ALL_SIDES; rows++)
+            compare_deepest(run, columns, rows);
+}
+
+/* Every answer that the header lists for a function must have been given. */
+static void demand_answers(struct tally *it)
+{
+    static const uint16_t LISTED[FUNCTIONS] = {0x0EF, 0x8EF, 0x00F, 0x003, 0x00F, 0x00F, 0x95F, 0x1E5F, 0x1E1F};
+    for (int function = 0; function < FUNCTIONS; function++)
+        for (int answer = 0; answer < ANSWERS; answer++)
+            if ((it->answers[function][answer] != 0) != (LISTED[function] >> answer & 1)) {
+                fprintf(stderr, "%s: answer %d was given %" PRIu64 " times\n", FUNCTION_NAMES[function], answer,
+                        it->answers[function][answer]);
+                it->failed++;
+            }
+}
+
+int main(int words, char **word)
+{
+    static struct run run;
+    uint64_t seed = words > 1 ? strtoull(word[1], NULL, 10) : 1983;
+    uint64_t small = words > 2 ? strtoull(word[2], NULL, 10) : SMALL_CASES;
+    uint64_t large = words > 3 ? strtoull(word[3], NULL, 10) : LARGE_CASES;
+    printf("seed %" PRIu64 ": %" PRIu64 " cases of sides to 9, %" PRIu64 " of sides to 129\n", seed, small, large);
+    run.draw.state = seed;
+    all_sizes(&run);
+    many_cases(&run, small, SMALL_SIDE);
+    many_cases(&run, large, LARGE_SIDE);
+    print_answers(&run.tally);
+    demand_answers(&run.tally);
+    return finish(&run.tally);
+}

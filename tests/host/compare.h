@@ -1,0 +1,31 @@
+/* One comparison of the library with plain C for each function; see compare.c. */
+#ifndef HOST_COMPARE_H
+#define HOST_COMPARE_H
+
+#include "draw.h"
+#include "lent.h"
+#include "tally.h"
+
+struct run {
+    struct seeded draw;
+    struct tally tally;
+    uint32_t most_side;
+    /* The last indices that plain C coded, for rebuilding and writing: `coded` of them, or 0. */
+    size_t coded;
+    int16_t levels[LEPSARVU_MOST_NODES];
+};
+
+static const struct pyramid_calls *const PYRAMIDS[2] = {&library_pyramid, &plain_pyramid};
+static const struct file_calls *const FILES[2] = {&library_file, &plain_file};
+
+void compare_deepest(struct run *run, uint16_t columns, uint16_t rows);
+void compare_settings(struct run *run, const struct settings *s);
+void compare_coding(struct run *run, const struct settings *s);
+void compare_rebuilding(struct run *run, const struct settings *s);
+void compare_writing(struct run *run, const struct settings *s);
+void compare_reading(struct run *run);
+
+/* A level buffer of so many indices between guards: coded ones if there are as many, or drawn ones. */
+const int16_t *lend_levels(struct run *run, const struct settings *s, struct lent *levels, size_t length);
+
+#endif

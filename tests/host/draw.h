@@ -1,0 +1,38 @@
+/* Cases drawn from a seed: settings, lengths, pictures, level buffers, readings and files, lawful and not. */
+#ifndef HOST_DRAW_H
+#define HOST_DRAW_H
+
+#include "plain.h"
+#include "seeded.h"
+
+struct settings {
+    uint16_t columns, rows, depth, kernel, bins[LEPSARVU_SLOTS];
+};
+
+struct reading {
+    uint8_t kind;
+    uint32_t number;
+};
+
+enum { MOST_DRAWN_FILE = LEPSARVU_MOST_FILE_BYTES + 16 };
+
+/* A call's first five arguments; `bins` is what was lent for them. */
+#define SETTINGS(s, bins) (s).columns, (s).rows, (s).depth, (s).kernel, (bins)
+
+struct settings draw_lawful(struct seeded *draw, uint32_t most_side);
+struct settings draw_settings(struct seeded *draw, uint32_t most_side);
+int is_lawful(const struct settings *s);
+
+/* The right lengths of lawful settings, and some of others. */
+size_t pixels_of(const struct settings *s);
+size_t nodes_of(const struct settings *s);
+size_t draw_length(struct seeded *draw, size_t right);
+
+void draw_picture(struct seeded *draw, const struct settings *s, uint8_t *picture, size_t length);
+void draw_levels(struct seeded *draw, const struct settings *s, int16_t *levels, size_t length);
+struct reading draw_reading(struct seeded *draw);
+
+/* A whole or damaged file; answers its length. */
+size_t draw_file(struct seeded *draw, uint32_t most_side, uint8_t file[MOST_DRAWN_FILE]);
+
+#endif

@@ -1,0 +1,69 @@
+/* Counts of comparisons by function and answer, and of those that failed. */
+#ifndef HOST_TALLY_H
+#define HOST_TALLY_H
+
+#include <inttypes.h>
+#include <stdio.h>
+
+enum function {
+    CODING,
+    REBUILDING,
+    LEVEL_BOUNDS,
+    DEEPEST_DEPTH,
+    TOTAL_NODES,
+    FILE_SIZE,
+    WRITE_FILE,
+    READ_FILE,
+    CHECK_FILE,
+    FUNCTIONS
+};
+
+enum { ANSWERS = 13, SHOWN_FAILURES = 20 };
+
+struct tally {
+    uint64_t number; /* of the case at hand */
+    uint64_t answers[FUNCTIONS][ANSWERS];
+    uint64_t passed, failed;
+};
+
+static const char *const FUNCTION_NAMES[FUNCTIONS] = {"coding",      "rebuilding", "level_bounds",
+                                                      "deepest_depth", "total_nodes", "file_size",
+                                                      "write_file",  "read_file",  "check_file"};
+
+static inline void count(struct tally *it, enum function function, uint16_t answer, int passed)
+{
+    if (answer < ANSWERS)
+        it->answers[function][answer]++;
+    if (passed) {
+        it->passed++;
+        return;
+    }
+    if (it->failed++ < SHOWN_FAILURES)
+        fprintf(stderr, "case %" PRIu64 ": %s differs, answer %u\n", it->number, FUNCTION_NAMES[function], answer);
+}
+
+/* One line for each function that was called: how often each answer was given. */
+static inline void print_answers(const struct tally *it)
+{
+    for (int function = 0; function < FUNCTIONS; function++) {
+        uint64_t total = 0;
+        for (int answer = 0; answer < ANSWERS; answer++)
+            total += it->answers[function][answer];
+        if (total == 0)
+            continue;
+        printf("%-13s %9" PRIu64 " compared;", FUNCTION_NAMES[function], total);
+        for (int answer = 0; answer < ANSWERS; answer++)
+            if (it->answers[function][answer] != 0)
+                printf(" %d: %" PRIu64, answer, it->answers[function][answer]);
+        puts("");
+    }
+}
+
+/* The last line, and the program's exit status. */
+static inline int finish(const struct tally *it)
+{
+    printf("%" PRIu64 " passed, %" PRIu64 " failed\n", it->passed, it->failed);
+    return it->failed != 0;
+}
+
+#endif
