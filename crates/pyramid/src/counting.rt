@@ -6,14 +6,12 @@ ghost use Rattle.pyramid.specs.Lawful.{Shaped};
 ghost use Rattle.pyramid.specs.Sizes.{last, columnsAt, rowsAt, nodesTo, total};
 ghost use Rattle.pyramid.specs.Buffers.{start};
 
-const POWERS: [u16; 7] = [1, 2, 4, 8, 16, 32, 64];
-
 // The last column (row) of a level of a picture with so many columns (rows).
 fn last_at(side: u16, level: u16) -> usize
     requires { ⌜ (1 ≤ side) × (level ≤ 6) ⌝ }
     ensures { λ r. ⌜ r ≡ last side level ⌝ }
 {
-    ((side - 1) / POWERS[level as usize]) as usize
+    ((side - 1) >> level) as usize
 }
 
 pub fn columns_at(s: Settings, level: u16) -> usize
