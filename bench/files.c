@@ -19,8 +19,8 @@ int main(void)
     print_heading();
     for (int size = 0; size < SIZES; size++) {
         prepare(&it, size, 4);
-        it.answer = fast_pyramid.coding(it.side, it.side, it.depth, it.kernel, it.bins, it.picture, it.pixels, it.levels,
-                                        it.nodes, it.work, it.nodes);
+        it.answer = fast_pyramid.coding(it.side, it.side, it.depth, it.kernel, it.bins, it.picture, it.pixels,
+                                        it.levels, it.nodes, it.work, it.nodes);
         must_agree(&it, writing);
         must_agree(&it, reading);
         compare_times("writing", &it, writing);

@@ -36,12 +36,15 @@ size_t fast_nodes(uint16_t columns, uint16_t rows, uint16_t depth)
     return nodes;
 }
 
+/* By the smallest and the largest, so that no index ends the loop early. */
 static int values_within(const int16_t *indices, size_t length, int bin)
 {
-    int most = MOST_VALUE / bin, outside = 0;
-    for (size_t at = 0; at < length; at++)
-        outside |= (indices[at] > most) | (indices[at] < -most);
-    return !outside;
+    int16_t smallest = 0, largest = 0;
+    for (size_t at = 0; at < length; at++) {
+        smallest = indices[at] < smallest ? indices[at] : smallest;
+        largest = indices[at] > largest ? indices[at] : largest;
+    }
+    return smallest * bin >= -MOST_VALUE && largest * bin <= MOST_VALUE;
 }
 
 int fast_values_ok(uint16_t columns, uint16_t rows, uint16_t depth, const uint16_t bins[7], const int16_t *levels)

@@ -132,12 +132,13 @@ static uint16_t readings_of(const uint8_t *from, const uint8_t *end, uint8_t kin
 
 static int items_ok(const uint8_t *from, size_t nodes, int bin)
 {
-    int most = MOST_VALUE / bin, outside = 0;
+    int16_t smallest = 0, largest = 0;
     for (size_t at = 0; at < nodes; at++) {
-        int index = (int16_t)get2(from + 2 * at);
-        outside |= (index > most) | (index < -most);
+        int16_t index = (int16_t)get2(from + 2 * at);
+        smallest = index < smallest ? index : smallest;
+        largest = index > largest ? index : largest;
     }
-    return !outside;
+    return smallest * bin >= -MOST_VALUE && largest * bin <= MOST_VALUE;
 }
 
 static uint16_t levels_refusal(const uint8_t *from, const uint8_t *end, const uint16_t shape[4],

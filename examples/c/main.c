@@ -1,5 +1,5 @@
 /* Codes a picture, writes its bale file to memory, reads the file back, rebuilds the picture, and prints the bound and
- * the largest difference found. README.md has the commands that build and run it. */
+ * the largest difference found. examples/README.md has the commands that build and run it. */
 #include <stdio.h>
 #include <stdlib.h>
 
@@ -48,8 +48,9 @@ int main(void)
     must("total nodes", lepsarvu_total_nodes(COLUMNS, ROWS, DEPTH, KERNEL, bins, &nodes));
     must("bounds", lepsarvu_level_bounds(COLUMNS, ROWS, DEPTH, KERNEL, bins, bounds));
     must("coding", lepsarvu_coding(COLUMNS, ROWS, DEPTH, KERNEL, bins, picture, PIXELS, levels, nodes, work, nodes));
+    /* Readings: 6.5 percent before the drier, not fitted at the press. */
     must("writing", lepsarvu_write_file(COLUMNS, ROWS, DEPTH, KERNEL, bins, 1, 0x40D00000, 0, 0, levels, nodes, file,
-                                        sizeof file, &size)); /* 6.5 percent before the drier, not fitted at the press */
+                                        sizeof file, &size));
     must("reading", lepsarvu_read_file(file, size, levels, nodes, shape, read_bins, kinds, numbers));
     must("rebuilding", lepsarvu_rebuilding(shape[0], shape[1], shape[2], shape[3], read_bins, levels, nodes, shown,
                                            PIXELS, work, nodes));

@@ -1,5 +1,5 @@
 //! Codes a picture, writes its bale file to memory, reads the file back, rebuilds the picture, and prints the bound and
-//! the largest difference found. README.md has the commands that build and run it.
+//! the largest difference found. examples/README.md has the commands that build and run it.
 
 #[allow(dead_code)]
 mod lepsarvu;

@@ -1,9 +1,6 @@
 /* Settings, lengths, pictures, level buffers and readings: see draw.h. */
 #include "draw.h"
 
-#include <stdlib.h>
-#include <string.h>
-
 static uint16_t draw_bin(struct seeded *draw)
 {
     static const uint16_t EDGES[] = {1, 2, 3, 254, 255};
