@@ -27,24 +27,24 @@ zeros-at zero p = refl
 zeros-at (suc n) zero = refl
 zeros-at (suc n) (suc p) = zeros-at n p
 
-module _ {k columns rows : ℕ} {src : List ℤ} (h : Kernel k) (s : Source 2 524288 columns rows src) (j : ℕ) where
+module _ {k columns rows : ℕ} {src : List ℤ} (h : Kernel k) (s : Source 2 524288 columns rows src) (narrow : columns ≤ 65) (j : ℕ) where
   abbrev column : ℕ → ℤ
   column = columnSum (evenWeight k j) (λ t. reflect (rows - 1) (halved j t)) (asLevel columns src)
 
-  -- the sums, written over as many zeros as the widest level asks for
+  -- the sums, written over as many zeros as the widest level above another asks for
   abbrev pub sums : List ℤ
-  sums = splice 0 (tabulate columns column) (replicate 129 (pos 0))
+  sums = splice 0 (tabulate columns column) (replicate 65 (pos 0))
 
-  fits : 0 + length (tabulate columns column) ≤ length (replicate 129 (pos 0))
-  fits = rw (length-tabulate, length-replicate) (omega (arith, s .wide-most))
+  fits : 0 + length (tabulate columns column) ≤ length (replicate 65 (pos 0))
+  fits = rw (length-tabulate, length-replicate) (omega arith)
 
   sum-at : (x : ℕ) → x < columns → getD sums x (pos 0) ≡ column x
   sum-at x l =
-      rw zero-add at (getD-splice 0 (tabulate columns column) (replicate 129 (pos 0)) (pos 0) x (omega arith) (rw length-tabulate l))
+      rw zero-add at (getD-splice 0 (tabulate columns column) (replicate 65 (pos 0)) (pos 0) x (omega arith) (rw length-tabulate l))
       ∙ getD-tabulate columns column (pos 0) x l
 
   zero-at : (x : ℕ) → columns ≤ x → getD sums x (pos 0) ≡ pos 0
-  zero-at x l = getD-after 0 (tabulate columns column) (replicate 129 (pos 0)) fits (pos 0) x (rw length-tabulate (omega arith)) ∙ zeros-at 129 x
+  zero-at x l = getD-after 0 (tabulate columns column) (replicate 65 (pos 0)) fits (pos 0) x (rw length-tabulate (omega arith)) ∙ zeros-at 65 x
 
   column-small : (x : ℕ) → Within 8388608 (column x)
   unfolding columnSum asLevel

@@ -16,6 +16,7 @@ use Rattle.pyramid.specs.Pyramid.{expanded}
 use Rattle.pyramid.specs.Buffers.{start, readLevels}
 use Rattle.pyramid.specs.Rows.{asLevel, Source}
 use Rattle.pyramid.specs.Layers.{predicted, LevelSmall}
+use Rattle.pyramid.proofs.Sizes.{last-most}
 use Rattle.pyramid.proofs.LevelSteps.{expandable, twice-wide, twice-high, expand-read}
 
 module _ (s : Settings) (l : ℕ) (g : ℕ → Level) where
@@ -49,5 +50,7 @@ module _ (s : Settings) (l j : ℕ) (work : List ℤ) (law : Lawful s) (long : t
   pub below-source : (e : ℕ) → LevelSmall s (suc l) e work → Source 2 e columns rows (part at to work)
   below-source e f = rw (place, end, along, across) (expandable s law work long l h e f)
 
-  pub below-sizes : (n : ℕ) → j < rowsAt s l → columnsAt s l ≤ n → (j ≤ 2 * (rows - 1)) × (2 * (columns - 1) + 1 ≤ n)
-  below-sizes n hj hn = rw (along, across) (omega (arith, twice-wide s law work long l h, twice-high s law work long l h))
+  pub below-sizes : (n : ℕ) → j < rowsAt s l → columnsAt s l ≤ n → (j ≤ 2 * (rows - 1)) × (2 * (columns - 1) + 1 ≤ n) × (columns ≤ 65)
+  below-sizes n hj hn =
+      rw (along, across)
+      (omega (arith, twice-wide s law work long l h, twice-high s law work long l h, last-most (s .columns) l, law .shaped .across .most))

@@ -110,10 +110,10 @@ fn expand_along(sums: &[i32], last: usize, kernel: u16, row: &mut [i32])
 pub fn expand_row(src: &[i32], columns: usize, rows: usize, j: usize, kernel: u16, row: &mut [i32])
     requires { ⌜ Kernel kernel ⌝ }
     requires { ⌜ Source 2 524288 columns rows (now src) ⌝ }
-    requires { ⌜ (j ≤ 2 * (rows - 1)) × (2 * (columns - 1) + 1 ≤ length (now row)) ⌝ }
+    requires { ⌜ (j ≤ 2 * (rows - 1)) × (2 * (columns - 1) + 1 ≤ length (now row)) × (columns ≤ 65) ⌝ }
     ensures { λ _. ⌜ now (row .exit) ≡ splice 0 (tabulate (2 * (columns - 1) + 1) (λ i. expand kernel (columns - 1) (rows - 1) (asLevel columns (now (src .entry))) i j)) (now (row .entry)) ⌝ }
 {
-    let mut sums: [i32; 129] = [0; 129];
+    let mut sums: [i32; 65] = [0; 65];
     expand_sums(src, columns, rows, j, kernel, &mut sums);
     expand_along(&sums, columns - 1, kernel, row);
 }
