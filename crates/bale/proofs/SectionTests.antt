@@ -1,21 +1,18 @@
--- The tests of a section's count and items, and of an index, one by one. Assumes nothing.
+-- The tests of a section's count and items, one by one, and of its indices. Assumes nothing.
 use mathlib.Core.Path.{_≡_, sym, _∙_}
-use mathlib.Core.Bool.{Bool, true, false}
 use mathlib.Core.List.{List}
-use Prim.Native.Nat.{ℕ, _+_, _-_, _*_, _≤_, _<_}
+use Prim.Native.Nat.{ℕ, _+_, _*_, _≤_, _<_}
 use native.Mathlib.Nat.{mul-le-mul}
-use native.Mathlib.Omega.{arith}
-use borrow.Author.Tests.{le-leb, lt-leb, le-ltb, eq-eqb, ne-eqb}
-use lib.Dec.{leb}
-use lib.IntN.{ℤ, pos, natAbs}
+use borrow.Author.Tests.{le-leb, lt-leb, eq-eqb, ne-eqb}
+use lib.IntN.{ℤ}
 use lib.ListN.{length, getD, List·getD-map}
 use Rattle.mathematics.specs.Tests.{all}
-use Rattle.mathematics.proofs.IntegerLaws.{abs-*ℤ}
-use Rattle.mathematics.proofs.Tests.{Passing, passing-next, passing-fails, passing-end}
+use Rattle.pyramid.specs.declared.IndexRange.{IndexRange}
 use Rattle.pyramid.specs.Refusals.{unless, first, indexOk}
+use Rattle.pyramid.specs.IndexRanges.{widened, rangeOk}
+use Rattle.pyramid.proofs.IndexRanges.{Ranged, ranged-next, ranged-end}
 use Rattle.bale.specs.Words.{u16At, wordsAt, wordIndex, indicesAt}
 use Rattle.bale.specs.Sections.{sectionRefusal}
-use Rattle.bale.proofs.WordLaws.{low-is}
 use Rattle.bale.proofs.WordLists.{getD-wordsAt}
 use Rattle.bale.proofs.LevelTrips.{length-indices}
 
@@ -38,40 +35,16 @@ module _ (bytes : List ℕ) (at count size : ℕ) where
     unfolding sectionRefusal unless first
     items-absent counted short = rw (le-leb _ _ h, eq-eqb _ _ counted, lt-leb _ _ short)
 
--- ---- an index: how far from 0, and whether its value is lawful
-
-pub magnitude-low : (word : ℕ) → word < 32768 → word ≡ natAbs (wordIndex word)
-unfolding wordIndex
-magnitude-low word h = sym (low-is h)
-
-pub magnitude-high : (word : ℕ) → 32768 ≤ word → word < 65536 → 65536 - word ≡ natAbs (wordIndex word)
-unfolding wordIndex
-magnitude-high word h l = rw (le-ltb word 32768 h) (omega arith)
-
-pub index-test : {m : ℕ} (word bin : ℕ) → m ≡ natAbs (wordIndex word) → leb (m * bin) 4096 ≡ indexOk bin (wordIndex word)
-unfolding indexOk
-index-test word bin e = rw (abs-*ℤ (wordIndex word) (pos bin), ← e)
-
 -- ---- the indices of a level
 
 pub getD-indices : (bytes : List ℕ) (at n i : ℕ) → i < n → getD (indicesAt bytes at n) i (wordIndex 0) ≡ wordIndex (u16At bytes (at + 2 * i))
 getD-indices bytes at n i h = List·getD-map wordIndex (wordsAt bytes at n) i 0 ∙ rw (getD-wordsAt bytes at n i h)
 
--- a loop that tests one a turn
-module _ (bytes : List ℕ) (at count bin i word : ℕ) {test : Bool} (r : Passing (indexOk bin) (indicesAt bytes at count) i) (h : i < count)
-    (read : word ≡ u16At bytes (at + 2 * i)) (tested : test ≡ indexOk bin (wordIndex word)) where
-  inside : i < length (indicesAt bytes at count)
-  inside = rw (length-indices bytes at count) h
+-- a loop that widens a range by one a turn
+module _ (bytes : List ℕ) (at count bin i : ℕ) {range : IndexRange} (r : Ranged bin (indicesAt bytes at count) i range) where
+  pub index-widens : i < count → {m : ℤ} {next : IndexRange} → m ≡ wordIndex (u16At bytes (at + 2 * i)) → next ≡ widened range m
+      → Ranged bin (indicesAt bytes at count) (i + 1) next
+  index-widens h read = ranged-next bin r (rw (length-indices bytes at count) h) (wordIndex 0) (read ∙ sym (getD-indices bytes at count i h))
 
-  test-is : indexOk bin (getD (indicesAt bytes at count) i (wordIndex 0)) ≡ test
-  test-is = rw (getD-indices bytes at count i h, ← read) (sym tested)
-
-  pub index-passes : test ≡ true → Passing (indexOk bin) (indicesAt bytes at count) (i + 1)
-  index-passes e = passing-next (indexOk bin) r (wordIndex 0) inside (test-is ∙ e)
-
-  pub index-fails : test ≡ false → false ≡ all (indexOk bin) (indicesAt bytes at count)
-  index-fails e = passing-fails (indexOk bin) r (wordIndex 0) inside (test-is ∙ e)
-
-pub indices-pass : (bytes : List ℕ) (at count bin i : ℕ) → Passing (indexOk bin) (indicesAt bytes at count) i → count ≤ i
-    → true ≡ all (indexOk bin) (indicesAt bytes at count)
-indices-pass bytes at count bin i r h = passing-end (indexOk bin) r (rw (length-indices bytes at count) h)
+  pub indices-ranged : count ≤ i → rangeOk bin range ≡ all (indexOk bin) (indicesAt bytes at count)
+  indices-ranged h = ranged-end bin r (rw (length-indices bytes at count) h)

@@ -4,16 +4,16 @@ use crate::Note;
 use crate::finding;
 use crate::probes;
 use crate::words;
+use pyramid::IndexRange;
 use pyramid::Settings;
 ghost use mathlib.Core.Path.{_≡_};
 ghost use Prim.Native.Nat.{_+_, _*_, _≤_, _<_};
-ghost use lib.IntN.{natAbs};
 ghost use lib.ListN.{length};
 ghost use Rattle.mathematics.specs.Tests.{all};
 ghost use Rattle.pyramid.specs.Sizes.{nodesAt};
 ghost use Rattle.pyramid.specs.Lawful.{Shaped};
 ghost use Rattle.pyramid.specs.Refusals.{indexOk};
-ghost use Rattle.bale.specs.Words.{wordIndex, indicesAt};
+ghost use Rattle.bale.specs.Words.{indicesAt};
 ghost use Rattle.bale.specs.Sections.{sectionRefusal};
 ghost use Rattle.bale.specs.Reader.{settingsIn, shapeSectionRefusal, binsSectionRefusal, readingsSectionRefusal, levelSectionRefusal, levelSectionsRefusal, bodyRefusal};
 ghost use Rattle.bale.specs.Calls.{sizeAnswer, writeRefusal, readRefusal, checkRefusal};
@@ -123,34 +123,19 @@ fn readings_section_refusal(file: &[u8], depth: u16) -> u16
     press.refusal
 }
 
-fn magnitude(word: u16) -> u32
-    ensures { λ r. ⌜ (r ≡ natAbs (wordIndex word)) × (r ≤ 32768) ⌝ }
-{
-    if word < 32768 {
-        return word as u32;
-    }
-    65536 - word as u32
-}
-
-// Whether the index of a number, times its bin, lies within 4,096 of 0.
-fn index_ok(word: u16, bin: u16) -> bool
-    ensures { λ r. ⌜ r ≡ indexOk bin (wordIndex word) ⌝ }
-{
-    magnitude(word) * bin as u32 <= 4096
-}
-
+// Every index of a level times its bin lies within 4,096 of 0: the lowest and the highest do.
 fn indices_ok(file: &[u8], at: usize, count: usize, bin: u16) -> bool
     requires { ⌜ at + 2 * count ≤ length (now file) ⌝ }
     ensures { λ r. ⌜ r ≡ all (indexOk bin) (indicesAt (now (file .entry)) at count) ⌝ }
 {
+    let mut range = IndexRange { low: 0, high: 0 };
     let mut i = 0;
     while i < count {
-        if !index_ok(words::u16_in(file, at + 2 * i), bin) {
-            return false;
-        }
+        let index = words::word_index(words::u16_in(file, at + 2 * i));
+        range = pyramid::widened(range, index);
         i += 1;
     }
-    true
+    pyramid::range_ok(range, bin)
 }
 
 fn level_section_refusal(file: &[u8], s: Settings, level: u16, at: usize) -> u16

@@ -1,6 +1,6 @@
--- Laws of tests: what a passed test says, a rule that one computed test proves at each number below a bound, and a loop that tests a list.
+-- Laws of tests: what a passed test says, a rule that one computed test proves at each number below a bound, and tests of joined lists.
 -- Assumes nothing.
-use mathlib.Core.Path.{_≡_, refl, sym, subst}
+use mathlib.Core.Path.{_≡_, refl, subst}
 use mathlib.Core.Bool.{Bool, true, false, not, cond, _&&_}
 use mathlib.Core.List.{List, [], _∷_, _++_}
 use Prim.Native.Nat.{ℕ, zero, suc, _+_, _-_, _≤_, _<_}
@@ -9,8 +9,6 @@ use native.Mathlib.Decide.{decLt}
 use native.Mathlib.Numerals.{add-one}
 use native.Mathlib.Omega.{arith}
 use lib.Dec.{T}
-use lib.ListN.{length, getD, drop, drop-of-length-le}
-use lib.Seq.{drop-cons}
 use Rattle.mathematics.specs.Tests.{allBelow, all}
 
 pub both : (a b : Bool) → T (a && b) → T a × T b
@@ -80,25 +78,3 @@ module _ {A : Type 0} (test : A → Bool) where
   unfolding all
   all-back [] ys t = t
   all-back (x ∷ xs) ys t = all-back xs ys (both (test x) (all test (xs ++ ys)) t .1)
-
-  -- ---- a loop that tests one element a turn: those before i pass
-
-  pub record Passing (xs : List A) (i : ℕ) : Type 0 where
-    pub bound : i ≤ length xs
-    pub rest : all test xs ≡ all test (drop i xs)
-
-  pub passing-start : (xs : List A) → Passing xs 0
-  passing-start xs = record { bound = omega arith; rest = refl }
-
-  pub passing-end : {xs : List A} {i : ℕ} → Passing xs i → length xs ≤ i → true ≡ all test xs
-  unfolding all
-  passing-end {xs} {i} r h = sym (rw (drop-of-length-le xs {i = i} h) at (r .rest))
-
-  module _ {xs : List A} {i : ℕ} (r : Passing xs i) (d : A) (h : i < length xs) where
-    pub passing-next : test (getD xs i d) ≡ true → Passing xs (i + 1)
-    unfolding all
-    passing-next e = record { bound = omega arith; rest = rw add-one (rw (drop-cons xs i d h, e) at (r .rest)) }
-
-    pub passing-fails : test (getD xs i d) ≡ false → false ≡ all test xs
-    unfolding all
-    passing-fails e = sym (rw (drop-cons xs i d h, e) at (r .rest))

@@ -20,6 +20,7 @@ pub mod Rendering
 pub mod SmallBuffers
 pub mod ReduceRows
 pub mod Copies
+pub mod IndexRanges
 pub mod LevelPlaces
 pub mod ExpandTaps
 pub mod ExpandRows

@@ -10,6 +10,7 @@ pub mod Bound
 pub mod Depth
 pub mod Buffers
 pub mod Refusals
+pub mod IndexRanges
 pub mod Rows
 pub mod Accepted
 pub mod Calls

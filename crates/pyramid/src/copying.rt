@@ -1,5 +1,7 @@
 // Rows and levels from one lent buffer to another: pixels, indices, values and the final picture.
+use crate::IndexRange;
 use crate::Settings;
+use crate::ranging;
 ghost use mathlib.Core.Path.{_≡_};
 ghost use mathlib.Core.List.{map};
 ghost use Prim.Native.Nat.{_+_, _≤_};
@@ -80,21 +82,15 @@ pub fn value_row(indices: &[i16], predicted: &[i32], bin: u16, work: &mut [i32],
     }
 }
 
-// Every index of a level times its bin lies within 4,096 of 0.
+// Every index of a level times its bin lies within 4,096 of 0: the lowest and the highest do.
 pub fn values_within(indices: &[i16], bin: u16) -> bool
     ensures { λ r. ⌜ r ≡ all (indexOk bin) (now (indices .entry)) ⌝ }
 {
-    let n = bin as i32;
+    let mut range = IndexRange { low: 0, high: 0 };
     let mut i = 0;
     while i < indices.len() {
-        let v = indices[i] as i32 * n;
-        if v < -4096 {
-            return false;
-        }
-        if 4096 < v {
-            return false;
-        }
+        range = ranging::widened(range, indices[i]);
         i += 1;
     }
-    true
+    ranging::range_ok(range, bin)
 }

@@ -17,10 +17,17 @@ mod copying;
 mod counting;
 mod expanding;
 mod layering;
+mod ranging;
 mod taps;
 
 // The number of the first rule that settings break: 1 to 3, or 0.
 pub use checking::settings_refusal;
+
+// Whether both ends of a range, and so all indices between, times their bin lie within 4,096 of 0.
+pub use ranging::range_ok;
+
+// A range with one index more.
+pub use ranging::widened;
 
 // Columns, rows, depth, kernel and the bin of each level in its slot (document 01, "Settings").
 pub struct Settings {
@@ -48,6 +55,12 @@ pub struct Nodes {
 pub struct Bounds {
     pub refusal: u16,
     pub levels: [u16; 7],
+}
+
+// The lowest and the highest of some indices and 0.
+pub struct IndexRange {
+    pub low: i16,
+    pub high: i16,
 }
 
 // The deepest depth of a size, or a refusal and 0.

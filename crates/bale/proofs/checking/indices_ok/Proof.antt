@@ -1,22 +1,22 @@
--- `bale::checking::indices_ok` meets its contract: each turn of its loop tests one index. Assumes nothing.
+-- `bale::checking::indices_ok` meets its contract: each turn of its loop widens the range by one index. Assumes nothing.
+use mathlib.Core.Path.{_∙_}
 use Prim.Native.Nat.{_-_}
 use borrow.Author.Needs.{needs}
-use borrow.Author.Tests.{not-true, not-false}
-use Rattle.mathematics.proofs.Tests.{Passing, passing-start}
-use Rattle.pyramid.specs.Refusals.{indexOk}
+use Rattle.pyramid.proofs.IndexRanges.{Ranged, ranged-start}
 use Rattle.bale.specs.Words.{indicesAt}
-use Rattle.bale.proofs.SectionTests.{index-passes, index-fails, indices-pass}
+use Rattle.bale.proofs.Pieces.{index-kept}
+use Rattle.bale.proofs.SectionTests.{index-widens, indices-ranged}
 use Rattle.bale.proofs.checking.indices_ok.Statement.{statement}
 use Rattle.bale.proofs.checking.indices_ok.Tie as tie
 
 abbrev Inv-loop : tie.InvT-loop
-Inv-loop file at count bin i₀ i = Passing (indexOk bin) (indicesAt file at count) i
+Inv-loop file at count bin range₀ i₀ range i = Ranged bin (indicesAt file at count) i range
 
 abbrev μ-loop : tie.MeasureT-loop
-μ-loop file at count bin i₀ i = count - i
+μ-loop file at count bin range₀ i₀ range i = count - i
 
 loop-holds : tie.Need-loop-holds Inv-loop μ-loop
-loop-holds c = passing-start _ _
+loop-holds c = ranged-start _ _
 
 mul-u16-in : tie.Need-mul-u16-in Inv-loop μ-loop
 mul-u16-in c = search needs
@@ -27,14 +27,11 @@ add-u16-in c = search needs
 u16-in-requires : tie.Need-u16-in-requires Inv-loop μ-loop
 u16-in-requires c κs = search needs
 
-index-ok-requires : tie.Need-index-ok-requires Inv-loop μ-loop
-index-ok-requires c κs = search needs
+word-index-requires : tie.Need-word-index-requires Inv-loop μ-loop
+word-index-requires c κs = search needs
 
-returns : tie.Need-returns Inv-loop μ-loop
-returns c =
-    let word = c .before .before in
-    let turn = word .before in
-    index-fails _ _ _ _ _ _ (turn .before .loop .inv) (turn .loop-test .taken) (word .u16-in .ensures .0) (c .before .index-ok .ensures) (not-true _ (c .if1 .taken))
+widened-requires : tie.Need-widened-requires Inv-loop μ-loop
+widened-requires c κs = search needs
 
 add-i : tie.Need-add-i Inv-loop μ-loop
 add-i c = search needs
@@ -46,10 +43,15 @@ loop-again : tie.Need-loop-again Inv-loop μ-loop
 loop-again c =
     let word = c .before .before in
     let turn = word .before in
-    index-passes _ _ _ _ _ _ (turn .before .loop .inv) (turn .loop-test .taken) (word .u16-in .ensures .0) (c .before .index-ok .ensures) (not-false _ (c .if1 .left))
+    index-widens _ _ _ _ _ (turn .before .loop .inv) (turn .loop-test .taken)
+    (index-kept (word .u16-in .ensures .1) (c .before .word-index .ensures) (word .u16-in .ensures .0))
+    (c .widened .ensures)
 
-returns-2 : tie.Need-returns-2 Inv-loop μ-loop
-returns-2 c = indices-pass _ _ _ _ _ (c .before .loop .inv) (c .loop-test .left)
+range-ok-requires : tie.Need-range-ok-requires Inv-loop μ-loop
+range-ok-requires c κs = search needs
+
+returns : tie.Need-returns Inv-loop μ-loop
+returns c = c .range-ok .ensures ∙ indices-ranged _ _ _ _ _ (c .before .before .loop .inv) (c .before .loop-test .left)
 
 pub indices-ok-spec : {M : Type 1} → statement M
 indices-ok-spec =
@@ -61,9 +63,10 @@ indices-ok-spec =
     mul-u16-in
     add-u16-in
     u16-in-requires
-    index-ok-requires
-    returns
+    word-index-requires
+    widened-requires
     add-i
     loop-less
     loop-again
-    returns-2)
+    range-ok-requires
+    returns)

@@ -1,57 +1,31 @@
--- `pyramid::copying::values_within` meets its contract: each turn of its loop tests one value. Assumes nothing.
+-- `pyramid::copying::values_within` meets its contract: each turn of its loop widens the range by one index. Assumes nothing.
+use mathlib.Core.Path.{_∙_}
 use Prim.Native.Nat.{_-_}
 use borrow.Author.Needs.{needs, sfits-of}
-use denote.Ref.{now}
 use lib.IntN.{pos}
-use lib.ListN.{length, getD}
-use mir.Syntax.{w16}
-use mir.Val.{SFits}
-use Rattle.mathematics.proofs.Held.{short-fits}
-use Rattle.mathematics.proofs.Tests.{Passing, passing-start, passing-next, passing-fails, passing-end}
-use Rattle.pyramid.specs.Refusals.{indexOk}
-use Rattle.pyramid.proofs.Copies.{value-fits, value-low, value-high, value-within}
+use lib.ListN.{length}
+use Rattle.mathematics.proofs.Held.{short-is}
+use Rattle.pyramid.proofs.IndexRanges.{Ranged, ranged-start, ranged-next, ranged-end}
 use Rattle.pyramid.proofs.copying.values_within.Statement.{statement}
 use Rattle.pyramid.proofs.copying.values_within.Tie as tie
 
 abbrev Inv-loop : tie.InvT-loop
-Inv-loop indices bin n i₀ i = Passing (indexOk bin) indices i
+Inv-loop indices bin range₀ i₀ range i = Ranged bin indices i range
 
 abbrev μ-loop : tie.MeasureT-loop
-μ-loop indices bin n i₀ i = length indices - i
-
-cast-n : tie.Need-cast-n Inv-loop μ-loop
-cast-n c = search needs
+μ-loop indices bin range₀ i₀ range i = length indices - i
 
 loop-holds : tie.Need-loop-holds Inv-loop μ-loop
-loop-holds c = passing-start _ _
+loop-holds c = ranged-start _ _
 
-mul-v : tie.Need-mul-v Inv-loop μ-loop
-mul-v c = search needs
+mul-widened : tie.Need-mul-widened Inv-loop μ-loop
+mul-widened c = search needs
 
-shared-slice-copy-out-v : tie.Need-shared-slice-copy-out-v Inv-loop μ-loop
-shared-slice-copy-out-v c = search needs
+shared-slice-copy-out-widened : tie.Need-shared-slice-copy-out-widened Inv-loop μ-loop
+shared-slice-copy-out-widened c = search needs
 
--- the index is of 16 bits
-index : (c : tie.After-v Inv-loop μ-loop) → SFits w16 (getD (now (c .before .before .before .args .indices)) (c .before .before .loop .i) (pos 0))
-index c = sfits-of (c .v .given)
-
-cast-v : tie.Need-cast-v Inv-loop μ-loop
-cast-v c = short-fits (index c)
-
-mul-v-2 : tie.Need-mul-v-2 Inv-loop μ-loop
-mul-v-2 c = value-fits (index c) (c .before .before .before .fits .bin)
-
-returns : tie.Need-returns Inv-loop μ-loop
-returns c =
-    let v = c .before in
-    let l = v .before .before in
-    passing-fails _ (l .loop .inv) (pos 0) (v .before .loop-test .taken) (value-low (index v) (l .before .fits .bin) (c .if1 .taken))
-
-returns-2 : tie.Need-returns-2 Inv-loop μ-loop
-returns-2 c =
-    let v = c .before .before in
-    let l = v .before .before in
-    passing-fails _ (l .loop .inv) (pos 0) (v .before .loop-test .taken) (value-high (index v) (l .before .fits .bin) (c .if2 .taken))
+widened-requires : tie.Need-widened-requires Inv-loop μ-loop
+widened-requires c κs = search needs
 
 add-i : tie.Need-add-i Inv-loop μ-loop
 add-i c = search needs
@@ -61,13 +35,14 @@ loop-less c = search needs
 
 loop-again : tie.Need-loop-again Inv-loop μ-loop
 loop-again c =
-    let v = c .before .before in
-    let l = v .before .before in
-    passing-next _ (l .loop .inv) (pos 0) (v .before .loop-test .taken)
-    (value-within (index v) (l .before .fits .bin) (c .before .if1 .left) (c .if2 .left))
+    let w = c .before in
+    ranged-next _ (w .before .before .loop .inv) (w .before .loop-test .taken) (pos 0) (short-is (sfits-of (w .widened-arg .given))) (c .widened .ensures)
 
-returns-3 : tie.Need-returns-3 Inv-loop μ-loop
-returns-3 c = passing-end _ (c .before .loop .inv) (c .loop-test .left)
+range-ok-requires : tie.Need-range-ok-requires Inv-loop μ-loop
+range-ok-requires c κs = search needs
+
+returns : tie.Need-returns Inv-loop μ-loop
+returns c = c .range-ok .ensures ∙ ranged-end _ (c .before .before .loop .inv) (c .before .loop-test .left)
 
 pub values-within-spec : {M : Type 1} → statement M
 values-within-spec =
@@ -75,15 +50,12 @@ values-within-spec =
     (tie.spec
     Inv-loop
     μ-loop
-    cast-n
     loop-holds
-    mul-v
-    shared-slice-copy-out-v
-    cast-v
-    mul-v-2
-    returns
-    returns-2
+    mul-widened
+    shared-slice-copy-out-widened
+    widened-requires
     add-i
     loop-less
     loop-again
-    returns-3)
+    range-ok-requires
+    returns)
