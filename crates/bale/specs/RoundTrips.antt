@@ -11,9 +11,11 @@ use mir.Val.{SFits}
 use Rattle.pyramid.specs.declared.Settings.{Settings}
 use Rattle.pyramid.specs.Sizes.{total}
 use Rattle.pyramid.specs.Buffers.{Bytes}
+use Rattle.pyramid.specs.Calls.{coding}
 use Rattle.bale.specs.declared.Reading.{Reading}
 use Rattle.bale.specs.declared.Reading.the-variants.{NotFitted, Percentage, Fault}
 use Rattle.bale.specs.declared.Note.{Note}
+use Rattle.bale.specs.Readings.{noteOk}
 use Rattle.bale.specs.Files.{fileOf, fileSize}
 use Rattle.bale.specs.Calls.{writeRefusal, writing, readRefusal, reading}
 
@@ -53,3 +55,10 @@ pub record ReadIsWritten (bytes : List ℕ) (lent : List ℤ) : Type 0 where
 
 abbrev pub ReadThenWritten : Type 0
 ReadThenWritten = (bytes : List ℕ) (lent : List ℤ) → Bytes bytes → readRefusal bytes (length lent) ≡ 0 → ReadIsWritten bytes lent
+
+-- ---- coded, then written: the writer accepts whatever levels an accepted coding leaves
+
+abbrev pub CodedThenWritten : Type 0
+CodedThenWritten =
+    (s : Settings) (note : Note) (picture : List ℕ) (levels work : List ℤ) (room : ℕ) → Bytes picture → coding s picture levels work .answer ≡ 0
+    → T (noteOk note) → fileSize s ≤ room → writeRefusal s note (coding s picture levels work .levels) room ≡ 0
