@@ -1,17 +1,27 @@
-/* The pyramid in plain C: see plain.h. */
+/* Coding, rebuilding, bounds, deepest depth and number of nodes in plain C, written from document 01 and Burt and
+ * Adelson (1983) alone. Nothing here is made fast: every rule is written the way the papers print it. */
 #include "plain.h"
 
-/* One level: its values row after row. */
-struct level {
-    int64_t columns, rows;
-    int32_t *values;
+enum { SLOTS = 7, MOST_DEPTH = 6, LEAST_SIDE = 2, MOST_SIDE = 129, SHARE = 400 };
+
+/* One level: a value for each node, at[row][column]. */
+struct plain_level {
+    int64_t columns;
+    int64_t rows;
+    int64_t at[MOST_SIDE][MOST_SIDE];
 };
 
+/* Slot l for level l: the averages g (coding) or the unclamped values r (rebuilding). */
+static struct plain_level pyramid[SLOTS];
+
+/* Settings: level l has (C - 1) / 2^l + 1 columns; rows alike. */
 int64_t plain_side(int64_t side, int64_t level)
 {
-    return (side - 1) / ((int64_t)1 << level) + 1;
+    int64_t power = (int64_t)1 << level;
+    return (side - 1) / power + 1;
 }
 
+/* Settings: T is the number of nodes of levels 0 to N together. */
 int64_t plain_total(int64_t columns, int64_t rows, int64_t depth)
 {
     int64_t total = 0;
@@ -20,117 +30,59 @@ int64_t plain_total(int64_t columns, int64_t rows, int64_t depth)
     return total;
 }
 
-static int sides_ok(int64_t columns, int64_t rows)
+/* Settings: C and R are each 2 to 129. */
+static int size_ok(int64_t columns, int64_t rows)
 {
-    return 2 <= columns && columns <= 129 && 2 <= rows && rows <= 129;
+    return columns >= LEAST_SIDE && columns <= MOST_SIDE && rows >= LEAST_SIDE && rows <= MOST_SIDE;
 }
 
-static int divides(int64_t depth, int64_t columns, int64_t rows)
+/* Settings: N is 0 to 6 and 2^N divides both C - 1 and R - 1. */
+static int depth_ok(int64_t columns, int64_t rows, int64_t depth)
 {
-    int64_t step = (int64_t)1 << depth;
-    return (columns - 1) % step == 0 && (rows - 1) % step == 0;
+    if (depth < 0 || depth > MOST_DEPTH)
+        return 0;
+    int64_t power = (int64_t)1 << depth;
+    return (columns - 1) % power == 0 && (rows - 1) % power == 0;
 }
 
+/* Refusals 1 (size, depth or divisibility) and 2 (k is not 3 to 6), lowest first. */
 uint16_t plain_shape_refusal(int64_t columns, int64_t rows, int64_t depth, int64_t kernel)
 {
-    if (!sides_ok(columns, rows) || depth > 6 || !divides(depth, columns, rows))
+    if (!size_ok(columns, rows) || !depth_ok(columns, rows, depth))
         return 1;
-    return 3 <= kernel && kernel <= 6 ? 0 : 2;
+    if (kernel < 3 || kernel > 6)
+        return 2;
+    return 0;
 }
 
+/* Settings: a bin in use is 1 to 255. */
 int plain_bin_ok(int64_t bin)
 {
-    return 1 <= bin && bin <= 255;
+    return bin >= 1 && bin <= 255;
 }
 
+/* Refusals 1, 2 and 3 (slots 0 to N hold lawful bins, slots above N hold 0), lowest first. */
 uint16_t plain_settings_refusal(int64_t columns, int64_t rows, int64_t depth, int64_t kernel, const uint16_t *bins)
 {
     uint16_t refusal = plain_shape_refusal(columns, rows, depth, kernel);
-    for (int64_t slot = 0; refusal == 0 && slot < 7; slot++) {
-        int ok = slot > depth ? bins[slot] == 0 : plain_bin_ok(bins[slot]);
-        if (!ok)
-            refusal = 3;
-    }
-    return refusal;
-}
-
-int plain_value_ok(int64_t index, int64_t bin)
-{
-    return -MOST_VALUE <= index * bin && index * bin <= MOST_VALUE;
-}
-
-/* The paper's a = k/10, 1/4 and 1/4 - a/2, in twentieths. */
-static int64_t weight(int64_t kernel, int64_t distance)
-{
-    if (distance < 0)
-        distance = -distance;
-    return distance == 0 ? 2 * kernel : distance == 1 ? 5 : 5 - kernel;
-}
-
-static int64_t mirrored(int64_t place, int64_t side)
-{
-    if (place < 0)
-        return -place;
-    return place > side - 1 ? 2 * (side - 1) - place : place;
-}
-
-static int64_t node(const struct level *it, int64_t column, int64_t row)
-{
-    return it->values[mirrored(row, it->rows) * it->columns + mirrored(column, it->columns)];
-}
-
-/* The largest whole number not above sum / over + 1/2. */
-static int64_t rounded(int64_t sum, int64_t over)
-{
-    int64_t top = 2 * sum + over, quotient = top / (2 * over);
-    return quotient * 2 * over > top ? quotient - 1 : quotient;
-}
-
-static int64_t reduced(const struct level *below, int64_t kernel, int64_t i, int64_t j)
-{
-    int64_t sum = 0;
-    for (int64_t n = -2; n <= 2; n++)
-        for (int64_t m = -2; m <= 2; m++)
-            sum += weight(kernel, m) * weight(kernel, n) * node(below, 2 * i + m, 2 * j + n);
-    return rounded(sum, 400);
-}
-
-static int64_t expanded(const struct level *above, int64_t kernel, int64_t i, int64_t j)
-{
-    int64_t sum = 0;
-    for (int64_t n = -2; n <= 2; n++)
-        for (int64_t m = -2; m <= 2; m++)
-            if ((i - m) % 2 == 0 && (j - n) % 2 == 0)
-                sum += weight(kernel, m) * weight(kernel, n) * node(above, (i - m) / 2, (j - n) / 2);
-    return rounded(4 * sum, 400);
-}
-
-/* The only m with (2m - 1) bin < 2 value <= (2m + 1) bin, looked for from value / bin. */
-static int64_t index_of(int64_t value, int64_t bin)
-{
-    int64_t m = value / bin;
-    while (!((2 * m - 1) * bin < 2 * value))
-        m--;
-    while (!(2 * value <= (2 * m + 1) * bin))
-        m++;
-    return m;
-}
-
-/* Where each level lies in a buffer of all levels, the deepest first. */
-static void lay_out(struct level levels[7], int64_t columns, int64_t rows, int64_t depth, int32_t *work)
-{
-    for (int64_t level = depth; level >= 0; level--) {
-        levels[level] = (struct level){plain_side(columns, level), plain_side(rows, level), work};
-        work += levels[level].columns * levels[level].rows;
-    }
-}
-
-static uint16_t call_refusal(int64_t columns, int64_t rows, int64_t depth, int64_t kernel, const uint16_t *bins,
-                             size_t picture_length, size_t levels_length, size_t work_length)
-{
-    uint16_t refusal = plain_settings_refusal(columns, rows, depth, kernel, bins);
     if (refusal != 0)
         return refusal;
+    for (int64_t level = 0; level < SLOTS; level++)
+        if (level <= depth ? !plain_bin_ok(bins[level]) : bins[level] != 0)
+            return 3;
+    return 0;
+}
+
+/* Refusal 11's condition, turned round: index times bin is within -4,096 to 4,096. */
+int plain_value_ok(int64_t index, int64_t bin)
+{
+    return index * bin >= -MOST_VALUE && index * bin <= MOST_VALUE;
+}
+
+/* Refusals 5 (picture not C x R), 6 (level buffer not T) and 7 (work buffer below T), lowest first. */
+static uint16_t lengths_refusal(int64_t columns, int64_t rows, int64_t depth, size_t picture_length,
+                                size_t levels_length, size_t work_length)
+{
     size_t total = (size_t)plain_total(columns, rows, depth);
     if (picture_length != (size_t)(columns * rows))
         return 5;
@@ -139,83 +91,202 @@ static uint16_t call_refusal(int64_t columns, int64_t rows, int64_t depth, int64
     return work_length < total ? 7 : 0;
 }
 
+/* The paper's weights with a = k/10, that is a, 1/4 and 1/4 - a/2, in twentieths: 2k, 5 and 5 - k. */
+static int64_t weight(int64_t kernel, int64_t distance)
+{
+    if (distance == 0)
+        return 2 * kernel;
+    if (distance == 1 || distance == -1)
+        return 5;
+    return 5 - kernel;
+}
+
+/* Edge: -1 is 1, -2 is 2; past the last place z, z + 1 is z - 1 and z + 2 is z - 2. */
+static int64_t reflected(int64_t place, int64_t side)
+{
+    int64_t last = side - 1;
+    if (place < 0)
+        return -place;
+    if (place > last)
+        return last - (place - last);
+    return place;
+}
+
+/* A level's value at a column and a row that may lie up to two places beyond its edge. */
+static int64_t value_at(const struct plain_level *level, int64_t column, int64_t row)
+{
+    return level->at[reflected(row, level->rows)][reflected(column, level->columns)];
+}
+
+/* Rounding: the largest whole number not above S/D + 1/2, which is (2S + D) / 2D; D is positive. */
+static int64_t rounded(int64_t sum, int64_t divisor)
+{
+    int64_t upper = 2 * sum + divisor;
+    int64_t lower = 2 * divisor;
+    int64_t whole = upper / lower;
+    if (whole * lower > upper) /* C cuts toward zero, so a negative quotient may lie above */
+        whole--;
+    return whole;
+}
+
+/* REDUCE at one node: 25 products of two weights and the value at (2i + m, 2j + n), over 400. */
+static int64_t reduce_node(const struct plain_level *below, int64_t kernel, int64_t i, int64_t j)
+{
+    int64_t sum = 0;
+    for (int64_t m = -2; m <= 2; m++)
+        for (int64_t n = -2; n <= 2; n++)
+            sum += weight(kernel, m) * weight(kernel, n) * value_at(below, 2 * i + m, 2 * j + n);
+    return rounded(sum, SHARE);
+}
+
+/* EXPAND at one node: four times the products with the value at ((i - m)/2, (j - n)/2), both whole, over 400. */
+static int64_t expand_node(const struct plain_level *above, int64_t kernel, int64_t i, int64_t j)
+{
+    int64_t sum = 0;
+    for (int64_t m = -2; m <= 2; m++)
+        for (int64_t n = -2; n <= 2; n++)
+            if ((i - m) % 2 == 0 && (j - n) % 2 == 0)
+                sum += weight(kernel, m) * weight(kernel, n) * value_at(above, (i - m) / 2, (j - n) / 2);
+    return rounded(4 * sum, SHARE);
+}
+
+/* What coding takes from a node and rebuilding adds to it: EXPAND of the next level up; 0 at the top. */
+static int64_t predicted(int64_t level, int64_t depth, int64_t kernel, int64_t i, int64_t j)
+{
+    return level == depth ? 0 : expand_node(&pyramid[level + 1], kernel, i, j);
+}
+
+/* Settings: the columns and rows of every level. */
+static void size_levels(int64_t columns, int64_t rows, int64_t depth)
+{
+    for (int64_t level = 0; level <= depth; level++) {
+        pyramid[level].columns = plain_side(columns, level);
+        pyramid[level].rows = plain_side(rows, level);
+    }
+}
+
+/* Bin rule: the only whole number m with (2m - 1)n < 2L <= (2m + 1)n. */
+static int64_t index_of(int64_t value, int64_t bin)
+{
+    int64_t m = 0;
+    while (2 * value > (2 * m + 1) * bin)
+        m++;
+    while (2 * value <= (2 * m - 1) * bin)
+        m--;
+    return m;
+}
+
+/* Coding: g0 is the picture, each next g is REDUCE of the last; L is g less EXPAND of the next g up, at the top g
+ * itself; each L becomes its index. Buffers: level N first, level 0 last, row after row; work gets g. */
 static uint16_t coding(uint16_t columns, uint16_t rows, uint16_t depth, uint16_t kernel, const uint16_t bins[7],
                        const uint8_t *picture, size_t picture_length, int16_t *levels, size_t levels_length,
                        int32_t *work, size_t work_length)
 {
-    struct level g[7];
-    uint16_t refusal = call_refusal(columns, rows, depth, kernel, bins, picture_length, levels_length, work_length);
+    uint16_t refusal = plain_settings_refusal(columns, rows, depth, kernel, bins);
+    if (refusal == 0)
+        refusal = lengths_refusal(columns, rows, depth, picture_length, levels_length, work_length);
     if (refusal != 0)
         return refusal;
-    lay_out(g, columns, rows, depth, work);
-    for (size_t at = 0; at < picture_length; at++)
-        g[0].values[at] = picture[at];
-    for (int64_t l = 1; l <= depth; l++)
-        for (int64_t at = 0; at < g[l].columns * g[l].rows; at++)
-            g[l].values[at] = (int32_t)reduced(&g[l - 1], kernel, at % g[l].columns, at / g[l].columns);
-    for (int64_t l = depth; l >= 0; l--)
-        for (int64_t at = 0; at < g[l].columns * g[l].rows; at++) {
-            int64_t guess = l == depth ? 0 : expanded(&g[l + 1], kernel, at % g[l].columns, at / g[l].columns);
-            *levels++ = (int16_t)index_of(g[l].values[at] - guess, bins[l]);
-        }
+    size_levels(columns, rows, depth);
+    for (int64_t j = 0; j < rows; j++)
+        for (int64_t i = 0; i < columns; i++)
+            pyramid[0].at[j][i] = picture[j * columns + i];
+    for (int64_t level = 1; level <= depth; level++)
+        for (int64_t j = 0; j < pyramid[level].rows; j++)
+            for (int64_t i = 0; i < pyramid[level].columns; i++)
+                pyramid[level].at[j][i] = reduce_node(&pyramid[level - 1], kernel, i, j);
+    int64_t place = 0;
+    for (int64_t level = depth; level >= 0; level--)
+        for (int64_t j = 0; j < pyramid[level].rows; j++)
+            for (int64_t i = 0; i < pyramid[level].columns; i++) {
+                int64_t difference = pyramid[level].at[j][i] - predicted(level, depth, kernel, i, j);
+                levels[place] = (int16_t)index_of(difference, bins[level]);
+                work[place] = (int32_t)pyramid[level].at[j][i];
+                place++;
+            }
     return 0;
 }
 
-static int all_values_ok(uint16_t columns, uint16_t rows, uint16_t depth, const uint16_t bins[7],
-                         const int16_t *levels)
+/* Refusal 11: an index of some level times that level's bin is outside -4,096 to 4,096. */
+static uint16_t values_refusal(int64_t columns, int64_t rows, int64_t depth, const uint16_t *bins,
+                               const int16_t *levels)
 {
-    for (int64_t level = depth; level >= 0; level--)
-        for (int64_t left = plain_side(columns, level) * plain_side(rows, level); left > 0; left--)
-            if (!plain_value_ok(*levels++, bins[level]))
-                return 0;
-    return 1;
+    int64_t place = 0;
+    for (int64_t level = depth; level >= 0; level--) {
+        int64_t nodes = plain_side(columns, level) * plain_side(rows, level);
+        for (int64_t node = 0; node < nodes; node++)
+            if (!plain_value_ok(levels[place + node], bins[level]))
+                return 11;
+        place += nodes;
+    }
+    return 0;
 }
 
+/* Rebuilding: only the final picture is clamped, to 0 to 255. */
+static uint8_t clamped(int64_t value)
+{
+    return (uint8_t)(value < 0 ? 0 : value > 255 ? 255 : value);
+}
+
+/* Rebuilding: r of level N is the top's values; below it r is the level's values plus EXPAND of the next r up. Work
+ * gets the unclamped r, level N first; the picture gets r of level 0, clamped. */
 static uint16_t rebuilding(uint16_t columns, uint16_t rows, uint16_t depth, uint16_t kernel, const uint16_t bins[7],
                            const int16_t *levels, size_t levels_length, uint8_t *picture, size_t picture_length,
                            int32_t *work, size_t work_length)
 {
-    struct level r[7];
-    uint16_t refusal = call_refusal(columns, rows, depth, kernel, bins, picture_length, levels_length, work_length);
+    uint16_t refusal = plain_settings_refusal(columns, rows, depth, kernel, bins);
+    if (refusal == 0)
+        refusal = lengths_refusal(columns, rows, depth, picture_length, levels_length, work_length);
+    if (refusal == 0)
+        refusal = values_refusal(columns, rows, depth, bins, levels);
     if (refusal != 0)
         return refusal;
-    if (!all_values_ok(columns, rows, depth, bins, levels))
-        return 11;
-    lay_out(r, columns, rows, depth, work);
-    for (int64_t l = depth; l >= 0; l--)
-        for (int64_t at = 0; at < r[l].columns * r[l].rows; at++) {
-            int64_t guess = l == depth ? 0 : expanded(&r[l + 1], kernel, at % r[l].columns, at / r[l].columns);
-            r[l].values[at] = (int32_t)(guess + (int64_t)*levels++ * bins[l]);
-        }
-    for (size_t at = 0; at < picture_length; at++) {
-        int32_t value = r[0].values[at];
-        picture[at] = (uint8_t)(value < 0 ? 0 : value > 255 ? 255 : value);
-    }
+    size_levels(columns, rows, depth);
+    int64_t place = 0;
+    for (int64_t level = depth; level >= 0; level--)
+        for (int64_t j = 0; j < pyramid[level].rows; j++)
+            for (int64_t i = 0; i < pyramid[level].columns; i++) {
+                int64_t value = (int64_t)levels[place] * bins[level];
+                pyramid[level].at[j][i] = value + predicted(level, depth, kernel, i, j);
+                work[place] = (int32_t)pyramid[level].at[j][i];
+                place++;
+            }
+    for (int64_t j = 0; j < rows; j++)
+        for (int64_t i = 0; i < columns; i++)
+            picture[j * columns + i] = clamped(pyramid[0].at[j][i]);
     return 0;
 }
 
+/* Bound (demand 3): at the top half its bin rounded down; below it the multiplier (100 hundredths, 196 for kernel 6)
+ * times the bound above, rounded up, plus half the level's own bin rounded down. Slots above N get 0. */
 static uint16_t level_bounds(uint16_t columns, uint16_t rows, uint16_t depth, uint16_t kernel,
                              const uint16_t bins[7], uint16_t bounds[7])
 {
     uint16_t refusal = plain_settings_refusal(columns, rows, depth, kernel, bins);
-    int64_t above = 0, hundredths = kernel == 6 ? 196 : 100;
-    for (int64_t level = 6; refusal == 0 && level >= 0; level--) {
-        above = (above * hundredths + 99) / 100 + bins[level] / 2;
-        bounds[level] = (uint16_t)above;
+    if (refusal != 0)
+        return refusal;
+    int64_t multiplier = kernel == 6 ? 196 : 100;
+    int64_t bound = 0; /* nothing above the top: its bound is half its bin alone */
+    for (int64_t level = SLOTS - 1; level >= 0; level--) {
+        if (level <= depth)
+            bound = (multiplier * bound + 99) / 100 + bins[level] / 2;
+        bounds[level] = (uint16_t)bound;
     }
-    return refusal;
-}
-
-static uint16_t deepest_depth(uint16_t columns, uint16_t rows, uint16_t *depth)
-{
-    if (!sides_ok(columns, rows))
-        return 1;
-    *depth = 6;
-    while (!divides(*depth, columns, rows))
-        --*depth;
     return 0;
 }
 
+/* Deepest depth: the largest N of 0 to 6 that the size allows. Refusal 1 on size only. */
+static uint16_t deepest_depth(uint16_t columns, uint16_t rows, uint16_t *depth)
+{
+    if (!size_ok(columns, rows))
+        return 1;
+    for (uint16_t n = 0; n <= MOST_DEPTH; n++)
+        if (depth_ok(columns, rows, n))
+            *depth = n;
+    return 0;
+}
+
+/* Settings: T, for lawful settings. Refusals 1, 2, 3. */
 static uint16_t total_nodes(uint16_t columns, uint16_t rows, uint16_t depth, uint16_t kernel,
                             const uint16_t bins[7], uint16_t *nodes)
 {
