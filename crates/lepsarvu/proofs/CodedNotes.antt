@@ -2,6 +2,7 @@
 use mathlib.Core.Path.{_≡_, sym, ap, _∙_}
 use mathlib.Core.List.{List, [], _∷_}
 use Prim.Native.Nat.{ℕ}
+use native.Mathlib.Decide.{ℕ-discrete}
 use lib.IntN.{ℤ}
 use lib.ListN.{length}
 use Rattle.pyramid.specs.declared.Settings.{Settings}
@@ -54,11 +55,11 @@ module _ (s : Settings) (c : Coded) (levels : List ℤ) (file : List ℕ) where
       -- then the writer's answer and file
       module _ (z : m ≡ 0) {note : Note} (n : note ≡ noteOf c) {answer : FileSize} {new : List ℕ} (a : answer ≡ writing s note levels file .answer)
           (f : new ≡ writing s note levels file .file) where
-        pub refusal-is : answer .refusal ≡ codedRefusal s c levels (length file)
+        refusal-is : answer .refusal ≡ codedRefusal s c levels (length file)
         unfolding writing
         refusal-is = ap (λ (x : FileSize). x .refusal) a ∙ rw n (sym (coded-is z))
 
-        pub written : answer .refusal ≡ 0 → (old : ℕ)
+        written : answer .refusal ≡ 0 → (old : ℕ)
             → (answer .refusal ≡ codedRefusal s c levels (length file)) × ((new ≡ codedFile s c levels file) × (answer .size ≡ codedSize s c levels (length file) old))
         unfolding writing codedFile codedSize
         written none old =
@@ -70,7 +71,7 @@ module _ (s : Settings) (c : Coded) (levels : List ℤ) (file : List ℕ) where
               ),
             )
 
-        pub unwritten : (answer .refusal ≡ 0 → ⊥) → (old : ℕ)
+        unwritten : (answer .refusal ≡ 0 → ⊥) → (old : ℕ)
             → (answer .refusal ≡ codedRefusal s c levels (length file)) × ((new ≡ codedFile s c levels file) × (old ≡ codedSize s c levels (length file) old))
         unfolding writing codedFile codedSize
         unwritten refused old =
@@ -81,3 +82,13 @@ module _ (s : Settings) (c : Coded) (levels : List ℤ) (file : List ℕ) where
                 rw (coded-is z) (sym (leaves-kept _ _ _ r)),
               ),
             )
+
+        -- with the size handed out
+        pub handed : {r size : ℕ} → r ≡ answer .refusal → (old : ℕ) → size ≡ leaves (answer .refusal) (answer .size) old
+            → (r ≡ codedRefusal s c levels (length file)) × ((new ≡ codedFile s c levels file) × (size ≡ codedSize s c levels (length file) old))
+        handed {r} {size} k old p = cases (ℕ-discrete (answer .refusal) 0)
+          where
+            cases : Dec (answer .refusal ≡ 0)
+                → (r ≡ codedRefusal s c levels (length file)) × ((new ≡ codedFile s c levels file) × (size ≡ codedSize s c levels (length file) old))
+            cases (yes none) = let (a′, (b, d′)) = written none old in (k ∙ a′, (b, p ∙ leaves-new _ _ _ none ∙ d′))
+            cases (no refused) = let (a′, (b, d′)) = unwritten refused old in (k ∙ a′, (b, p ∙ leaves-kept _ _ _ refused ∙ d′))

@@ -1,5 +1,6 @@
 // The pyramid and the bale file for programs in C or Rust: numbers and slices alone. include/lepsarvu.h declares each function.
 use bale::Bale;
+use bale::FileSize;
 use bale::Note;
 use bale::Probe;
 use pyramid::Settings;
@@ -117,6 +118,17 @@ pub extern "C" fn lepsarvu_total_nodes(
     answer.refusal
 }
 
+// A size, into what was lent for it.
+fn give_size(answer: FileSize, size: &mut usize) -> u16
+    ensures { λ r. ⌜ r ≡ answer .refusal ⌝ }
+    ensures { λ _. ⌜ now (size .exit) ≡ leaves (answer .refusal) (answer .size) (now (size .entry)) ⌝ }
+{
+    if answer.refusal == 0 {
+        *size = answer.size;
+    }
+    answer.refusal
+}
+
 #[no_mangle]
 pub extern "C" fn lepsarvu_file_size(
     columns: u16,
@@ -131,10 +143,7 @@ pub extern "C" fn lepsarvu_file_size(
 {
     let b = *bins;
     let answer = bale::file_size(settings(columns, rows, depth, kernel, b));
-    if answer.refusal == 0 {
-        *size = answer.size;
-    }
-    answer.refusal
+    give_size(answer, size)
 }
 
 // The writer's refusal of two readings, which comes after those of the settings.
@@ -185,10 +194,7 @@ pub extern "C" fn lepsarvu_write_file(
         at_press: at_press,
     };
     let answer = bale::write_file(s, note, levels, file);
-    if answer.refusal == 0 {
-        *size = answer.size;
-    }
-    answer.refusal
+    give_size(answer, size)
 }
 
 // What a reader answers, into what it was lent.

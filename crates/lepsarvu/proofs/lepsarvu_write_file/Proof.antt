@@ -1,7 +1,6 @@
 -- `lepsarvu::lepsarvu_write_file` meets its contract: the readings are decoded after the settings are looked at, and then the file is written.
 -- Assumes nothing.
-use mathlib.Core.Path.{sym, _∙_}
-use Rattle.lepsarvu.proofs.CodedNotes.{coded-stops, coded-note, written, unwritten}
+use Rattle.lepsarvu.proofs.CodedNotes.{coded-stops, coded-note, handed}
 use borrow.Author.Needs.{needs}
 use Rattle.lepsarvu.proofs.lepsarvu_write_file.Statement.{statement}
 use Rattle.lepsarvu.proofs.lepsarvu_write_file.Tie as tie
@@ -27,6 +26,9 @@ returns c =
 write-file-requires : tie.Need-write-file-requires
 write-file-requires c κs = search needs
 
+give-size-requires : tie.Need-give-size-requires
+give-size-requires c κs = search needs
+
 same-length : tie.Need-same-length
 same-length c = search needs
 
@@ -40,22 +42,8 @@ returns-2 c =
     let press = m .before .coded-reading2 .ensures in
     let e = rw (r .settings .ensures) at (m .note-refusal .ensures) in
     let f = rw (r .settings .ensures) at (w .write-file .ensures) in
-    written _ _ _ _ drier press e (else .if1 .left) (coded-note _ drier press) (f .0) (f .1) (c .if2 .taken) _
-
-same-length-2 : tie.Need-same-length-2
-same-length-2 c = search needs
-
-returns-3 : tie.Need-returns-3
-returns-3 c =
-    let w = c .before .before .before .before in
-    let else = w .before .before in
-    let m = else .before in
-    let r = m .before .before .before in
-    let drier = m .before .before .coded-reading .ensures in
-    let press = m .before .coded-reading2 .ensures in
-    let e = rw (r .settings .ensures) at (m .note-refusal .ensures) in
-    let f = rw (r .settings .ensures) at (w .write-file .ensures) in
-    unwritten _ _ _ _ drier press e (else .if1 .left) (coded-note _ drier press) (f .0) (f .1) (c .if2 .left) _
+    let g = c .give-size .ensures in
+    handed _ _ _ _ drier press e (else .if1 .left) (coded-note _ drier press) (f .0) (f .1) (g .0) _ (g .1)
 
 pub lepsarvu-write-file-spec : {M : Type 1} → statement M
 lepsarvu-write-file-spec =
@@ -67,7 +55,6 @@ lepsarvu-write-file-spec =
     note-refusal-requires
     returns
     write-file-requires
+    give-size-requires
     same-length
-    returns-2
-    same-length-2
-    returns-3)
+    returns-2)
