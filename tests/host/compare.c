@@ -4,7 +4,7 @@
 
 #include "compare.h"
 
-enum { SMALL_CASES = 1000000, LARGE_CASES = 2000, SMALL_SIDE = 9, LARGE_SIDE = 129, ALL_SIDES = 140 };
+enum { SMALL_CASES = 1000000, LARGE_CASES = 6000, SMALL_SIDE = 9, LARGE_SIDE = 129, ALL_SIDES = 140 };
 
 static void one_case(struct run *run)
 {
