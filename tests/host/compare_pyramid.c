@@ -12,47 +12,42 @@ void compare_deepest(struct run *run, uint16_t columns, uint16_t rows)
     count(&run->tally, DEEPEST_DEPTH, answers[0], passed);
 }
 
-static void compare_bounds(struct run *run, const struct settings *s)
+/* A call on settings alone, of one of the two implementations; it leaves its answer in `left`. */
+typedef uint16_t settings_call(int which, const struct settings *s, const uint16_t *bins, void *left);
+
+static uint16_t call_bounds(int which, const struct settings *s, const uint16_t *bins, void *left)
 {
-    static struct lent bins, bounds[2];
-    uint16_t answers[2];
-    const uint16_t *lent_bins = lend_copy(&bins, s->bins, sizeof s->bins, &run->draw);
-    lend_pair(bounds, sizeof s->bins, &run->draw);
-    for (int which = 0; which < 2; which++)
-        answers[which] = PYRAMIDS[which]->level_bounds(SETTINGS(*s, lent_bins), start_of(&bounds[which]));
-    int passed = answers[0] == answers[1] && kept(&bins) && same_pair(bounds, answers[0], sizeof s->bins);
-    count(&run->tally, LEVEL_BOUNDS, answers[0], passed);
+    return PYRAMIDS[which]->level_bounds(SETTINGS(*s, bins), left);
 }
 
-static void compare_total(struct run *run, const struct settings *s)
+static uint16_t call_total(int which, const struct settings *s, const uint16_t *bins, void *left)
 {
-    static struct lent bins, nodes[2];
-    uint16_t answers[2];
-    const uint16_t *lent_bins = lend_copy(&bins, s->bins, sizeof s->bins, &run->draw);
-    lend_pair(nodes, sizeof(uint16_t), &run->draw);
-    for (int which = 0; which < 2; which++)
-        answers[which] = PYRAMIDS[which]->total_nodes(SETTINGS(*s, lent_bins), start_of(&nodes[which]));
-    int passed = answers[0] == answers[1] && kept(&bins) && same_pair(nodes, answers[0], sizeof(uint16_t));
-    count(&run->tally, TOTAL_NODES, answers[0], passed);
+    return PYRAMIDS[which]->total_nodes(SETTINGS(*s, bins), left);
 }
 
-static void compare_size(struct run *run, const struct settings *s)
+static uint16_t call_size(int which, const struct settings *s, const uint16_t *bins, void *left)
 {
-    static struct lent bins, size[2];
+    return FILES[which]->file_size(SETTINGS(*s, bins), left);
+}
+
+static void compare_call(struct run *run, const struct settings *s, enum function function, settings_call *call,
+                         size_t bytes)
+{
+    static struct lent bins, left[2];
     uint16_t answers[2];
     const uint16_t *lent_bins = lend_copy(&bins, s->bins, sizeof s->bins, &run->draw);
-    lend_pair(size, sizeof(size_t), &run->draw);
+    lend_pair(left, bytes, &run->draw);
     for (int which = 0; which < 2; which++)
-        answers[which] = FILES[which]->file_size(SETTINGS(*s, lent_bins), start_of(&size[which]));
-    int passed = answers[0] == answers[1] && kept(&bins) && same_pair(size, answers[0], sizeof(size_t));
-    count(&run->tally, FILE_SIZE, answers[0], passed);
+        answers[which] = call(which, s, lent_bins, start_of(&left[which]));
+    int passed = answers[0] == answers[1] && kept(&bins) && same_pair(left, answers[0], bytes);
+    count(&run->tally, function, answers[0], passed);
 }
 
 void compare_settings(struct run *run, const struct settings *s)
 {
-    compare_bounds(run, s);
-    compare_total(run, s);
-    compare_size(run, s);
+    compare_call(run, s, LEVEL_BOUNDS, call_bounds, sizeof s->bins);
+    compare_call(run, s, TOTAL_NODES, call_total, sizeof(uint16_t));
+    compare_call(run, s, FILE_SIZE, call_size, sizeof(size_t));
 }
 
 /* A work buffer's length: often more than it need be. */

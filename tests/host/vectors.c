@@ -1,59 +1,15 @@
-/* Holds the library to the answers of the Python reference: vectors pyramid|levels|files FILE
+/* Holds the library to the answers of the Python reference, on standard input: vectors pyramid|levels|files|calls
  * tests/reference/README.md gives the formats. */
-#include <stdlib.h>
+#include "vectors.h"
 
-#include "draw.h"
-#include "lent.h"
-#include "tally.h"
-
-static struct seeded draw = {1983};
-static struct tally tally;
-
-/* The vectors that are left; numbers are little-endian. */
-static const uint8_t *at, *end;
-
-static const uint8_t *take(size_t bytes)
-{
-    if ((size_t)(end - at) < bytes) {
-        fprintf(stderr, "the vectors end inside a case\n");
-        exit(1);
-    }
-    at += bytes;
-    return at - bytes;
-}
-
-static uint32_t take_number(int bytes)
-{
-    const uint8_t *from = take((size_t)bytes);
-    uint32_t number = 0;
-    while (bytes-- > 0)
-        number = number << 8 | from[bytes];
-    return number;
-}
-
-static void take_numbers(uint16_t *to, int many)
-{
-    while (many-- > 0)
-        *to++ = (uint16_t)take_number(2);
-}
-
-static struct settings take_settings(void)
-{
-    struct settings s;
-    uint16_t shape[4];
-    take_numbers(shape, 4);
-    take_numbers(s.bins, LEPSARVU_SLOTS);
-    s.columns = shape[0];
-    s.rows = shape[1];
-    s.depth = shape[2];
-    s.kernel = shape[3];
-    return s;
-}
+struct seeded draw = {1983};
+struct tally tally;
 
 /* Whether what a call left is what the vectors say, in numbers of so many bytes. */
 static int holds_bytes(struct lent *it, size_t many)
 {
-    return guards_kept(it) && memcmp(start_of(it), take(many), many) == 0;
+    const uint8_t *expected = take(many);
+    return guards_kept(it) && memcmp(start_of(it), expected, many) == 0;
 }
 
 static int holds_indices(struct lent *it, size_t many)
@@ -144,23 +100,6 @@ static void levels_case(void)
     rebuild_case(&s, indices, 1);
 }
 
-/* What a reader fills. */
-struct note {
-    uint16_t shape[4], bins[LEPSARVU_SLOTS];
-    uint8_t kinds[2];
-    uint32_t numbers[2];
-};
-
-static void take_note(struct note *it)
-{
-    take_numbers(it->shape, 4);
-    take_numbers(it->bins, LEPSARVU_SLOTS);
-    for (int reading = 0; reading < 2; reading++) {
-        it->kinds[reading] = (uint8_t)take_number(1);
-        it->numbers[reading] = take_number(4);
-    }
-}
-
 /* Reads with a level buffer of some length; the vectors' indices, if any are due, are the next ones. */
 static void read_with(const uint8_t *file, size_t length, struct lent *levels, size_t many, uint16_t expected,
                       const struct note *is)
@@ -209,34 +148,22 @@ static void files_case(void)
         write_again(&is, start_of(&levels), nodes, file, length);
 }
 
-static void read_vectors(const char *name)
-{
-    FILE *file = fopen(name, "rb");
-    static uint8_t vectors[1 << 22];
-    if (file == NULL) {
-        perror(name);
-        exit(1);
-    }
-    at = vectors;
-    end = vectors + fread(vectors, 1, sizeof vectors, file);
-    fclose(file);
-}
-
 int main(int words, char **word)
 {
-    if (words != 3)
-        return 2;
-    read_vectors(word[2]);
-    while (at < end) {
-        tally.number++;
-        if (strcmp(word[1], "pyramid") == 0)
-            pyramid_case();
-        else if (strcmp(word[1], "levels") == 0)
-            levels_case();
-        else
-            files_case();
-    }
-    printf("%s: %" PRIu64 " cases\n", word[1], tally.number);
-    print_answers(&tally);
-    return finish(&tally);
+    static const struct {
+        const char *kind;
+        void (*check)(void);
+    } KINDS[] = {{"pyramid", pyramid_case}, {"levels", levels_case}, {"files", files_case}, {"calls", calls_case}};
+    for (size_t at = 0; words == 2 && at < sizeof KINDS / sizeof *KINDS; at++)
+        if (strcmp(word[1], KINDS[at].kind) == 0) {
+            while (next_case()) {
+                tally.number++;
+                KINDS[at].check();
+            }
+            printf("%s: %" PRIu64 " cases\n", word[1], tally.number);
+            print_answers(&tally);
+            return finish(&tally);
+        }
+    fprintf(stderr, "usage: vectors pyramid|levels|files|calls\n");
+    return 2;
 }
