@@ -41,7 +41,12 @@ pub extern "C" fn lepsarvu_coding(
     ensures { λ _. ⌜ now (work .exit) ≡ coding (settingsOf columns rows depth kernel (now (bins .entry))) (now (picture .entry)) (now (levels .entry)) (now (work .entry)) .work ⌝ }
 {
     let b = *bins;
-    pyramid::coding(settings(columns, rows, depth, kernel, b), picture, levels, work)
+    pyramid::coding(
+        settings(columns, rows, depth, kernel, b),
+        picture,
+        levels,
+        work,
+    )
 }
 
 #[no_mangle]
@@ -60,7 +65,12 @@ pub extern "C" fn lepsarvu_rebuilding(
     ensures { λ _. ⌜ now (work .exit) ≡ rebuilding (settingsOf columns rows depth kernel (now (bins .entry))) (now (levels .entry)) (now (picture .entry)) (now (work .entry)) .work ⌝ }
 {
     let b = *bins;
-    pyramid::rebuilding(settings(columns, rows, depth, kernel, b), levels, picture, work)
+    pyramid::rebuilding(
+        settings(columns, rows, depth, kernel, b),
+        levels,
+        picture,
+        work,
+    )
 }
 
 #[no_mangle]

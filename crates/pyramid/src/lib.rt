@@ -7,7 +7,9 @@ ghost use Rattle.pyramid.specs.Pyramid.{average, index};
 ghost use Rattle.pyramid.specs.Rebuilding.{rebuilt, clamp};
 ghost use Rattle.pyramid.specs.Buffers.{raster, pixels, allLevels, readLevels};
 ghost use Rattle.pyramid.specs.Refusals.{first, settingsRefusal, buffersRefusal, valuesOk, levelsRefusal};
-ghost use Rattle.pyramid.specs.Calls.{inWork, coding, rebuilding};
+ghost use Rattle.pyramid.specs.Calls.{leaves, inWork, coding, rebuilding};
+ghost use Rattle.pyramid.specs.Sizes.{total};
+ghost use Rattle.pyramid.specs.Lawful.{Shaped};
 ghost use Rattle.pyramid.specs.Accepted.{Accepted};
 
 mod averaging;
@@ -69,11 +71,11 @@ pub struct Deepest {
     pub depth: u16,
 }
 
-// T of settings. Refused: 1 to 3.
-pub fn total_nodes(s: Settings) -> Nodes
-    ensures { λ r. ⌜ r ≡ nodesAnswer s ⌝ }
+// T where there is no refusal; else the refusal and 0.
+fn nodes_of(s: Settings, refusal: u16) -> Nodes
+    requires { ⌜ (refusal ≡ 0 → Shaped s) ⌝ }
+    ensures { λ r. ⌜ r ≡ record { refusal = refusal; nodes = leaves refusal (total s) 0 } ⌝ }
 {
-    let refusal = checking::settings_refusal(s);
     if refusal != 0 {
         return Nodes {
             refusal: refusal,
@@ -87,22 +89,18 @@ pub fn total_nodes(s: Settings) -> Nodes
     }
 }
 
+// T of settings. Refused: 1 to 3.
+pub fn total_nodes(s: Settings) -> Nodes
+    ensures { λ r. ⌜ r ≡ nodesAnswer s ⌝ }
+{
+    nodes_of(s, checking::settings_refusal(s))
+}
+
 // T of a shape, whose bins are not looked at. Refused: 1, 2.
 pub fn shape_nodes(s: Settings) -> Nodes
     ensures { λ r. ⌜ r ≡ shapeAnswer s ⌝ }
 {
-    let refusal = checking::shape_refusal(s);
-    if refusal != 0 {
-        return Nodes {
-            refusal: refusal,
-            nodes: 0,
-        };
-    }
-    let t = counting::total(s);
-    Nodes {
-        refusal: 0,
-        nodes: t as u16,
-    }
+    nodes_of(s, checking::shape_refusal(s))
 }
 
 // The columns and rows of a level of a shape; 0 by 0 for a level above the depth. Refused: 1, 2.
