@@ -41,12 +41,8 @@ pub extern "C" fn lepsarvu_coding(
     ensures { λ _. ⌜ now (work .exit) ≡ coding (settingsOf columns rows depth kernel (now (bins .entry))) (now (picture .entry)) (now (levels .entry)) (now (work .entry)) .work ⌝ }
 {
     let b = *bins;
-    pyramid::coding(
-        settings(columns, rows, depth, kernel, b),
-        picture,
-        levels,
-        work,
-    )
+    let s = settings(columns, rows, depth, kernel, b);
+    pyramid::coding(s, picture, levels, work)
 }
 
 #[no_mangle]
@@ -65,12 +61,8 @@ pub extern "C" fn lepsarvu_rebuilding(
     ensures { λ _. ⌜ now (work .exit) ≡ rebuilding (settingsOf columns rows depth kernel (now (bins .entry))) (now (levels .entry)) (now (picture .entry)) (now (work .entry)) .work ⌝ }
 {
     let b = *bins;
-    pyramid::rebuilding(
-        settings(columns, rows, depth, kernel, b),
-        levels,
-        picture,
-        work,
-    )
+    let s = settings(columns, rows, depth, kernel, b);
+    pyramid::rebuilding(s, levels, picture, work)
 }
 
 #[no_mangle]
