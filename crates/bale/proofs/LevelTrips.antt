@@ -1,10 +1,9 @@
 -- The level sections: written and read, the indices are the same; read and written, the bytes are. Assumes nothing.
 use mathlib.Core.Path.{_≡_, refl, sym, ap, ap₂, _∙_, subst}
-use mathlib.Core.Bool.{_&&_}
 use mathlib.Core.List.{List, [], _∷_, _++_, map}
-use Prim.Native.Nat.{ℕ, zero, suc, _+_, _-_, _*_, _≤_, _<_}
+use Prim.Native.Nat.{ℕ, zero, suc, _+_, _-_, _*_, _<_}
 use native.Mathlib.Omega.{arith}
-use lib.Dec.{T, leb, eqb}
+use lib.Dec.{T, eqb}
 use lib.IntN.{ℤ, pos}
 use lib.ListN.{length, getD, take, drop, length-append, length-map, length-drop, take-append-drop}
 use lib.Seq.{length-take-le, take-all, take-at, drop-at}
@@ -16,12 +15,12 @@ use Rattle.pyramid.specs.declared.Settings.{Settings}
 use Rattle.pyramid.specs.Settings.{bin}
 use Rattle.pyramid.specs.Sizes.{nodesAt, nodesTo}
 use Rattle.pyramid.specs.Buffers.{Bytes}
-use Rattle.pyramid.specs.Refusals.{unless, first, indexOk}
+use Rattle.pyramid.specs.Refusals.{indexOk}
 use Rattle.pyramid.proofs.Refusals.{first-nil, first-none, first-pass, unless-holds, unless-none}
 use Rattle.pyramid.proofs.Sizes.{nodesTo-zero, nodesTo-suc}
 use Rattle.pyramid.proofs.CheckedLevels.{checked, checked-zero, checked-suc}
-use Rattle.bale.specs.Words.{le16, words, u16At, wordsAt, indexWord, wordIndex, indicesAt}
-use Rattle.bale.specs.Sections.{numbersSection, sectionRefusal}
+use Rattle.bale.specs.Words.{wordsAt, indexWord, wordIndex, indicesAt}
+use Rattle.bale.specs.Sections.{numbersSection}
 use Rattle.bale.specs.Files.{levelSection, levelSections}
 use Rattle.bale.specs.Reader.{levelsFrom, levelSectionRefusal, levelSectionsRefusal}
 use Rattle.bale.proofs.Stands.{Stands, stands-front, stands-back, stands-join}

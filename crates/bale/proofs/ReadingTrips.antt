@@ -1,6 +1,5 @@
 -- The readings section: written and read, the readings are the same, bit for bit; read and written, the bytes are. Assumes nothing.
-use mathlib.Core.Path.{_≡_, refl, sym, ap, ap₂, _∙_, subst}
-use mathlib.Core.Bool.{_&&_}
+use mathlib.Core.Path.{_≡_, refl, sym, ap, _∙_, subst}
 use mathlib.Core.List.{List, [], _∷_, _++_}
 use Prim.Native.Nat.{ℕ, zero, suc, _+_, _*_, _≤_, _<_}
 use native.Mathlib.Nat.{add-zero}
@@ -14,8 +13,7 @@ use Rattle.bale.specs.declared.Reading.{Reading}
 use Rattle.bale.specs.declared.Note.{Note}
 use Rattle.bale.specs.declared.Probe.{Probe}
 use Rattle.bale.specs.Words.{le16, le32, u16At, u32At}
-use Rattle.bale.specs.Readings.{readingOk, noteOk, kindOf, numberOf, readingBytes, decode}
-use Rattle.bale.specs.Sections.{sectionRefusal}
+use Rattle.bale.specs.Readings.{readingOk, noteOk, kindOf, numberOf, readingBytes}
 use Rattle.bale.specs.Files.{readingsSection}
 use Rattle.bale.specs.Reader.{readingsPlace, probeAt, noteIn, readingsSectionRefusal}
 use Rattle.bale.specs.RoundTrips.{HeldReading}

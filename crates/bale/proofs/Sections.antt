@@ -1,12 +1,11 @@
 -- Sections: what a count and its items are, which refusal they give, and a section of numbers written and read. Assumes nothing.
-use mathlib.Core.Path.{_≡_, refl, sym, ap, _∙_, subst}
-use mathlib.Core.List.{List, [], _∷_, _++_}
+use mathlib.Core.Path.{_≡_, subst}
+use mathlib.Core.List.{List, _++_}
 use Prim.Native.Nat.{ℕ, _+_, _*_, _≤_, _<_}
 use native.Mathlib.Omega.{arith}
 use lib.Dec.{T, leb, eqb, leb→le, le→leb, eqb→eq, eqb-refl}
-use lib.ListN.{length, length-append}
+use lib.ListN.{length}
 use Rattle.pyramid.specs.Buffers.{Bytes}
-use Rattle.pyramid.specs.Refusals.{unless, first}
 use Rattle.pyramid.proofs.Refusals.{first-nil, first-none, first-pass, unless-holds, unless-none}
 use Rattle.bale.specs.Words.{le16, words, u16At, wordsAt}
 use Rattle.bale.specs.Sections.{numbersSection, sectionRefusal}

@@ -1,12 +1,12 @@
 -- Reading is total: each rule gives its own number or 0, so the first that is not 0 is one of them. Assumes nothing.
 use mathlib.Core.Path.{_≡_}
 use mathlib.Core.Bool.{Bool, true, false, cond}
-use mathlib.Core.List.{List, [], _∷_}
+use mathlib.Core.List.{List}
 use Prim.Native.Nat.{ℕ, zero, suc, _+_, _*_}
 use lib.Dec.{T, eqb}
 use Rattle.pyramid.specs.declared.Settings.{Settings}
 use Rattle.pyramid.specs.Sizes.{nodesAt, total}
-use Rattle.pyramid.specs.Refusals.{unless, shapeRefusal}
+use Rattle.pyramid.specs.Refusals.{shapeRefusal}
 use Rattle.pyramid.proofs.Refusals.{first-over, unless-holds, unless-elim, first-elim, last-elim, shape-elim}
 use Rattle.bale.specs.Readings.{decode}
 use Rattle.bale.specs.Sections.{sectionRefusal}
