@@ -14,7 +14,7 @@ use Rattle.pyramid.specs.Sizes.{nodesAt, total}
 use Rattle.pyramid.specs.Lawful.{Shaped}
 use Rattle.pyramid.specs.Refusals.{unless, indexOk, shapeRefusal, settingsRefusal}
 use Rattle.pyramid.specs.Answers.{shapeAnswer}
-use Rattle.pyramid.proofs.Refusals.{first-nil, first-none, first-last, answers-stop, answers-skip, answers-second, answers-fails, answers-passes, accepted-shape, settings-bins}
+use Rattle.pyramid.proofs.Refusals.{first-nil, first-none, answers-stop, answers-skip, answers-last, answers-second, answers-fails, answers-passes, accepted-shape, settings-bins}
 use Rattle.pyramid.proofs.ShapeAnswers.{shape-accepted, shape-total}
 use Rattle.bale.specs.Words.{u16At, indicesAt}
 use Rattle.bale.specs.Sections.{sectionRefusal}
@@ -57,7 +57,7 @@ module _ (bytes : List ℕ) (s : Settings) (level at : ℕ) {nodes m : ℕ} (n :
 
     pub level-fails : test ≡ false → 11 ≡ levelSectionRefusal bytes s level at
     unfolding levelSectionRefusal
-    level-fails failed = answers-fails 10 [] (rw (← n, ← t) failed) ∙ answers-skip _ (e ∙ rw n) none
+    level-fails failed = answers-fails [] (rw (← n, ← t) failed) ∙ answers-skip _ (e ∙ rw n) none
 
 -- ---- the sections of a level and of those below it
 
@@ -76,7 +76,7 @@ module _ (bytes : List ℕ) (s : Settings) (at : ℕ) {m : ℕ} where
   pub levels-more : {nodes : ℕ} (l : ℕ) → m ≡ levelSectionRefusal bytes s l at → m ≡ 0 → nodes ≡ nodesAt s l → l ≡ 0 → (length bytes ≡ at + 2 + 2 * nodes → ⊥)
       → 12 ≡ levelSectionsRefusal bytes s l at
   unfolding levelSectionsRefusal
-  levels-more zero e none n z more = answers-fails 11 [] (rw (← n) (ne-eqb _ _ more)) ∙ answers-skip _ e none
+  levels-more zero e none n z more = answers-fails [] (rw (← n) (ne-eqb _ _ more)) ∙ answers-skip _ e none
   levels-more (suc l) e none n z more = absurd (omega arith)
 
   pub levels-next : {nodes x : ℕ} (l : ℕ) → m ≡ levelSectionRefusal bytes s l at → m ≡ 0 → nodes ≡ nodesAt s l → (l ≡ 0 → ⊥)
@@ -94,8 +94,8 @@ module _ (bytes : List ℕ) (s : Settings) (places : ℕ) (e : s ≡ settingsIn 
 
   pub places-wrong : (places ≡ answer .nodes → ⊥) → 6 ≡ readRefusal bytes places
   unfolding readRefusal
-  places-wrong wrong = answers-fails 5 _ (rw (← total-in) (ne-eqb _ _ wrong)) ∙ answers-skip _ p none
+  places-wrong wrong = answers-fails _ (rw (← total-in) (ne-eqb _ _ wrong)) ∙ answers-skip _ p none
 
   pub places-right : places ≡ answer .nodes → {n : ℕ} → n ≡ bodyRefusal bytes → n ≡ readRefusal bytes places
   unfolding readRefusal
-  places-right right q = q ∙ sym (first-last _) ∙ answers-passes 6 _ (rw (← total-in) (eq-eqb _ _ right)) ∙ answers-skip _ p none
+  places-right right q = answers-last q ∙ answers-passes 6 _ (rw (← total-in) (eq-eqb _ _ right)) ∙ answers-skip _ p none

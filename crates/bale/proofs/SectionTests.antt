@@ -25,16 +25,16 @@ items-small count size c s = mul-le-mul c s
 module _ (bytes : List ℕ) (at count size : ℕ) where
   pub count-absent : length bytes < at + 2 → 9 ≡ sectionRefusal bytes at count size
   unfolding sectionRefusal
-  count-absent h = answers-fails 8 _ (lt-leb _ _ h)
+  count-absent h = answers-fails _ (lt-leb _ _ h)
 
   module _ (h : at + 2 ≤ length bytes) where
     pub count-wrong : (u16At bytes at ≡ count → ⊥) → 10 ≡ sectionRefusal bytes at count size
     unfolding sectionRefusal
-    count-wrong wrong = answers-fails 9 _ (ne-eqb _ _ wrong) ∙ answers-passes 9 _ (le-leb _ _ h)
+    count-wrong wrong = answers-fails _ (ne-eqb _ _ wrong) ∙ answers-passes 9 _ (le-leb _ _ h)
 
     pub items-absent : u16At bytes at ≡ count → length bytes < at + 2 + count * size → 9 ≡ sectionRefusal bytes at count size
     unfolding sectionRefusal
-    items-absent counted short = answers-fails 8 _ (lt-leb _ _ short) ∙ answers-passes 10 _ (eq-eqb _ _ counted) ∙ answers-passes 9 _ (le-leb _ _ h)
+    items-absent counted short = answers-fails _ (lt-leb _ _ short) ∙ answers-passes 10 _ (eq-eqb _ _ counted) ∙ answers-passes 9 _ (le-leb _ _ h)
 
 -- ---- the indices of a level
 

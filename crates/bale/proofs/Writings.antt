@@ -43,12 +43,12 @@ six : {r : ℕ} (lengths values fits : Bool) → r ≡ first (unless lengths 6 �
 six true values fits e is =
     let eleven : unless values 11 ≡ 6 = sym (e ∙ sym (answers-passes 6 _ refl) ∙ first-last _) ∙ is in
     absurd (unless-elim (λ n. n ≡ 6 → ⊥) (λ z. omega (arith, z)) values 11 (λ z. omega (arith, z)) eleven)
-six false values fits e is = answers-fails 5 _ refl
+six false values fits e is = answers-fails _ refl
 
 eight : {r : ℕ} (lengths values fits : Bool) → r ≡ first (unless lengths 6 ∷ unless values 11 ∷ []) → (r ≡ 6 → ⊥) → fits ≡ false
     → 8 ≡ first (unless lengths 6 ∷ unless fits 8 ∷ unless values 11 ∷ [])
-eight true values fits e allowed short = answers-fails 7 _ short ∙ answers-passes 6 _ refl
-eight false values fits e allowed short = absurd (allowed (e ∙ sym (answers-fails 5 _ refl)))
+eight true values fits e allowed short = answers-fails _ short ∙ answers-passes 6 _ refl
+eight false values fits e allowed short = absurd (allowed (e ∙ sym (answers-fails _ refl)))
 
 other : {r : ℕ} (lengths values fits : Bool) → r ≡ first (unless lengths 6 ∷ unless values 11 ∷ []) → fits ≡ true
     → r ≡ first (unless lengths 6 ∷ unless fits 8 ∷ unless values 11 ∷ [])
@@ -68,7 +68,7 @@ module _ (s : Settings) (note : Note) (levels : List ℤ) (room : ℕ) (size : F
   module _ (none : size .refusal ≡ 0) {ok : Bool} (n : ok ≡ noteOk note) where
     pub note-refused : ok ≡ false → 4 ≡ writeRefusal s note levels room
     unfolding writeRefusal
-    note-refused bad = answers-fails 3 _ (sym n ∙ bad) ∙ answers-skip _ settings-is none
+    note-refused bad = answers-fails _ (sym n ∙ bad) ∙ answers-skip _ settings-is none
 
     module _ (good : ok ≡ true) {r : ℕ} (l : r ≡ levelsRefusal s levels) where
       -- the rules that are left
@@ -82,14 +82,14 @@ module _ (s : Settings) (note : Note) (levels : List ℤ) (room : ℕ) (size : F
       levels-are : r ≡ first (unless (eqb (length levels) (total s)) 6 ∷ unless (valuesOk s levels) 11 ∷ [])
       levels-are = l ∙ levels-parts s levels (sym settings-is ∙ none)
 
-      size-found-is : size .size ≡ fileSize s
-      size-found-is = ap (λ (x : FileSize). x .size) (e ∙ size-is s (sym settings-is ∙ none))
+      needed : size .size ≡ fileSize s
+      needed = ap (λ (x : FileSize). x .size) (e ∙ size-is s (sym settings-is ∙ none))
 
       pub lengths-refused : r ≡ 6 → 6 ≡ writeRefusal s note levels room
       lengths-refused is = six _ _ _ levels-are is ∙ later-is
 
       pub room-refused : (r ≡ 6 → ⊥) → room < size .size → 8 ≡ writeRefusal s note levels room
-      room-refused allowed short = eight _ _ _ levels-are allowed (lt-leb (fileSize s) room (rw (← size-found-is) short)) ∙ later-is
+      room-refused allowed short = eight _ _ _ levels-are allowed (lt-leb (fileSize s) room (rw (← needed) short)) ∙ later-is
 
       pub values-refused : size .size ≤ room → r ≡ writeRefusal s note levels room
-      values-refused long = other _ _ _ levels-are (le-leb (fileSize s) room (rw (← size-found-is) long)) ∙ later-is
+      values-refused long = other _ _ _ levels-are (le-leb (fileSize s) room (rw (← needed) long)) ∙ later-is

@@ -92,7 +92,7 @@ answers-stop {m} later e refused = sym (first-stop m later refused) ∙ rw e
 pub answers-skip : {m x : ℕ} (later : List ℕ) → m ≡ x → m ≡ 0 → first later ≡ first (x ∷ later)
 answers-skip later e none = sym (first-skip _ later (sym e ∙ none))
 
-answers-last : {m x : ℕ} → m ≡ x → m ≡ first (x ∷ [])
+pub answers-last : {m x : ℕ} → m ≡ x → m ≡ first (x ∷ [])
 answers-last {x = x} e = e ∙ sym (first-last x)
 
 -- the number of a rule that holds, then that of the last
@@ -100,8 +100,8 @@ pub answers-second : {m x n y : ℕ} → m ≡ x → m ≡ 0 → n ≡ y → n �
 answers-second e none f = answers-last f ∙ answers-skip _ e none
 
 -- the same of a test: its number where it fails, and what follows where it passes
-pub answers-fails : {holds : Bool} (number : ℕ) (later : List ℕ) → holds ≡ false → suc number ≡ first (unless holds (suc number) ∷ later)
-answers-fails number later e = answers-stop later (sym (unless-fails (suc number) e)) (λ z. omega (arith, z))
+pub answers-fails : {holds : Bool} {number : ℕ} (later : List ℕ) → holds ≡ false → suc number ≡ first (unless holds (suc number) ∷ later)
+answers-fails {number = number} later e = answers-stop later (sym (unless-fails (suc number) e)) (λ z. omega (arith, z))
 
 pub answers-passes : {holds : Bool} (number : ℕ) (later : List ℕ) → holds ≡ true → first later ≡ first (unless holds number ∷ later)
 answers-passes number later e = sym (first-skip _ later (unless-passes number e))
