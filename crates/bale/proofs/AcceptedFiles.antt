@@ -3,7 +3,7 @@ use mathlib.Core.Path.{_≡_, sym, ap, _∙_}
 use mathlib.Core.List.{List}
 use Prim.Native.Nat.{ℕ, zero, suc, _+_, _*_, _≤_}
 use native.Mathlib.Omega.{arith}
-use lib.Dec.{T, leb, eqb, leb→le, eqb→eq}
+use lib.Dec.{T, leb, eqb, leb→le, le→leb, eqb→eq}
 use lib.IntN.{ℤ}
 use lib.ListN.{length}
 use Rattle.mathematics.specs.Splices.{splice}
@@ -12,13 +12,15 @@ use Rattle.pyramid.specs.declared.Settings.{Settings}
 use Rattle.pyramid.specs.Sizes.{nodesAt, nodesTo, total}
 use Rattle.pyramid.specs.Lawful.{Shaped, Lawful}
 use Rattle.pyramid.specs.Refusals.{settingsRefusal, valuesOk}
-use Rattle.pyramid.proofs.Refusals.{first-none, unless-none, accepted-shape, accepted-settings}
+use Rattle.pyramid.proofs.Refusals.{first-nil, first-none, first-pass, unless-holds, unless-none, accepted-shape, accepted-settings}
+use Rattle.pyramid.proofs.Sizes.{nodesTo-zero, nodesTo-suc, total-is}
 use Rattle.bale.specs.declared.Note.{Note}
 use Rattle.bale.specs.Words.{u16At}
 use Rattle.bale.specs.Readings.{noteOk}
 use Rattle.bale.specs.Files.{fileSize}
 use Rattle.bale.specs.Reader.{levelsPlace, settingsIn, levelsFrom, levelsIn, shapeSectionRefusal, levelSectionsRefusal, bodyRefusal}
 use Rattle.bale.specs.Calls.{writeRefusal, readRefusal}
+use Rattle.bale.proofs.Sections.{eqb-of}
 use Rattle.bale.proofs.LevelTrips.{length-from}
 
 -- ---- the writer
@@ -48,18 +50,28 @@ accepted-writing s note levels room e =
       valued = unless-none (valuesOk s levels) 10 eleven;
     }
 
+pub writing-accepted : (s : Settings) (note : Note) (levels : List ℤ) (room : ℕ) → settingsRefusal s ≡ 0 → T (noteOk note) → length levels ≡ total s
+    → fileSize s ≤ room → T (valuesOk s levels) → writeRefusal s note levels room ≡ 0
+unfolding writeRefusal
+writing-accepted s note levels room settings noted long fits valued =
+    first-pass _ settings
+    (first-pass _ (unless-holds (noteOk note) 4 noted)
+    (first-pass _ (unless-holds (eqb (length levels) (total s)) 6 (eqb-of long))
+    (first-pass _ (unless-holds (leb (fileSize s) room) 8 (le→leb (fileSize s) room fits))
+    (first-pass _ (unless-holds (valuesOk s levels) 11 valued) first-nil))))
+
 -- ---- the reader
 
 module _ (bytes : List ℕ) where
   file-end : (s : Settings) (l at : ℕ) → levelSectionsRefusal bytes s l at ≡ 0 → at + 2 * (l + 1) + 2 * nodesTo s l ≡ length bytes
-  unfolding levelSectionsRefusal nodesTo
+  unfolding levelSectionsRefusal
   file-end s zero at e =
       let (_, e₁₂) = first-none _ _ e in
       let end : length bytes ≡ at + 2 + 2 * nodesAt s 0 = eqb→eq _ _ (unless-none (eqb (length bytes) (at + 2 + 2 * nodesAt s 0)) 11 (first-none _ _ e₁₂ .0)) in
-      omega arith
+      omega (arith, nodesTo-zero s)
   file-end s (suc l) at e =
       let (_, e₂) = first-none _ _ e in
-      omega (arith, file-end s l (at + 2 + 2 * nodesAt s (suc l)) (first-none _ _ e₂ .0))
+      omega (arith, nodesTo-suc s l, file-end s l (at + 2 + 2 * nodesAt s (suc l)) (first-none _ _ e₂ .0))
 
   pub record AcceptedFile (places : ℕ) : Type 0 where
     pub shaped : Shaped (settingsIn bytes)
@@ -83,9 +95,10 @@ module _ (bytes : List ℕ) where
   -- what fills the level buffer is all that it then holds
   pub filled : (s : Settings) (levels : List ℤ) {new : List ℤ} → s ≡ settingsIn bytes → readRefusal bytes (length levels) ≡ 0
       → new ≡ splice 0 (levelsFrom bytes s (s .depth) (levelsPlace (s .depth))) levels → new ≡ levelsIn bytes
-  unfolding settingsIn total
+  unfolding settingsIn
   filled s levels e accepted q =
       let n : length (levelsIn bytes) ≡ length levels =
-      length-from (settingsIn bytes) bytes (u16At bytes 6) (levelsPlace (u16At bytes 6)) ∙ sym (accepted-file (length levels) accepted .places-are)
+      length-from (settingsIn bytes) bytes (u16At bytes 6) (levelsPlace (u16At bytes 6)) ∙ sym (total-is (settingsIn bytes))
+      ∙ sym (accepted-file (length levels) accepted .places-are)
       in
       q ∙ ap (λ (x : Settings). splice 0 (levelsFrom bytes x (x .depth) (levelsPlace (x .depth))) levels) e ∙ splice-whole (levelsIn bytes) levels n

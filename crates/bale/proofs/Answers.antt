@@ -1,11 +1,10 @@
 -- What the writer and the readers answer and leave, refused and accepted. Assumes nothing.
-use mathlib.Core.Path.{_≡_, sym, _∙_}
+use mathlib.Core.Path.{_≡_, refl, sym, _∙_}
 use mathlib.Core.List.{List, _++_}
 use Prim.Native.Nat.{ℕ}
 use lib.IntN.{ℤ}
 use lib.ListN.{length, drop}
 use Rattle.pyramid.specs.declared.Settings.{Settings}
-use Rattle.pyramid.specs.Refusals.{settingsRefusal}
 use Rattle.pyramid.proofs.Refusals.{leaves-new, leaves-kept}
 use Rattle.bale.specs.declared.Note.{Note}
 use Rattle.bale.specs.declared.FileSize.{FileSize}
@@ -15,8 +14,19 @@ use Rattle.bale.specs.Files.{fileOf, fileSize}
 use Rattle.bale.specs.Reader.{settingsIn, noteIn, levelsIn}
 use Rattle.bale.specs.Calls.{sizeAnswer, writeRefusal, writing, noSettings, noNote, baleOf, readRefusal, reading}
 use Rattle.bale.proofs.AcceptedFiles.{accepted-writing}
+use Rattle.bale.proofs.Writings.{size-is}
 
 -- ---- the writer
+
+module _ (s : Settings) (note : Note) (levels : List ℤ) (file : List ℕ) where
+  pub writing-refusal : writing s note levels file .answer .refusal ≡ writeRefusal s note levels (length file)
+  unfolding writing
+  writing-refusal = refl
+
+  pub writing-is : writeRefusal s note levels (length file) ≡ 0
+      → writing s note levels file ≡ record { answer = record { refusal = 0; size = fileSize s }; file = fileOf s note levels ++ drop (fileSize s) file }
+  unfolding writing
+  writing-is e = rw (e, leaves-new 0 (fileSize s) 0 refl, leaves-new 0 (fileOf s note levels ++ drop (fileSize s) file) file refl)
 
 module _ (s : Settings) (note : Note) (levels : List ℤ) (file : List ℕ) {refusal : ℕ} (e : refusal ≡ writeRefusal s note levels (length file)) where
   pub writing-refused : (refusal ≡ 0 → ⊥) → (record { refusal = refusal; size = 0 } ≡ writing s note levels file .answer) × (file ≡ writing s note levels file .file)
@@ -25,12 +35,21 @@ module _ (s : Settings) (note : Note) (levels : List ℤ) (file : List ℕ) {ref
 
   pub writing-done : {size : FileSize} {new : List ℕ} → refusal ≡ 0 → size ≡ sizeAnswer s → new ≡ fileOf s note levels ++ drop (fileSize s) file
       → (size ≡ writing s note levels file .answer) × (new ≡ writing s note levels file .file)
-  unfolding writing sizeAnswer
   writing-done none p q =
-      let z : settingsRefusal s ≡ 0 = accepted-writing s note levels (length file) (sym e ∙ none) .settings in
-      (p ∙ rw (← e, z, none), q ∙ rw (← e) (sym (leaves-new _ _ _ none)))
+      let z : writeRefusal s note levels (length file) ≡ 0 = sym e ∙ none in
+      rw (writing-is s note levels file z) (p ∙ size-is s (accepted-writing s note levels (length file) z .settings), q)
 
 -- ---- the reader
+
+module _ (bytes : List ℕ) where
+  pub bale-is : baleOf bytes 0 ≡ record { refusal = 0; settings = settingsIn bytes; note = noteIn bytes (u16At bytes 6) }
+  unfolding baleOf
+  bale-is = rw (leaves-new 0 (settingsIn bytes) noSettings refl, leaves-new 0 (noteIn bytes (u16At bytes 6)) noNote refl)
+
+  pub reading-is : (levels : List ℤ) → readRefusal bytes (length levels) ≡ 0
+      → reading bytes levels ≡ record { answer = record { refusal = 0; settings = settingsIn bytes; note = noteIn bytes (u16At bytes 6) }; levels = levelsIn bytes }
+  unfolding reading
+  reading-is levels e = rw (e, bale-is, leaves-new 0 (levelsIn bytes) levels refl)
 
 pub refused-bale : (bytes : List ℕ) {refusal : ℕ} → (refusal ≡ 0 → ⊥) → record { refusal = refusal; settings = noSettings; note = noNote } ≡ baleOf bytes refusal
 unfolding baleOf
@@ -45,5 +64,4 @@ module _ (bytes : List ℕ) (levels : List ℤ) {refusal : ℕ} (e : refusal ≡
 
   pub reading-done : {new : List ℤ} → refusal ≡ 0 → answer ≡ baleOf bytes 0 → new ≡ levelsIn bytes
       → (answer ≡ reading bytes levels .answer) × (new ≡ reading bytes levels .levels)
-  unfolding reading
-  reading-done none p q = (p ∙ rw (← e, none), q ∙ rw (← e) (sym (leaves-new _ _ _ none)))
+  reading-done none p q = rw (reading-is bytes levels (sym e ∙ none)) (p ∙ bale-is bytes, q)

@@ -7,6 +7,7 @@ use lib.IntN.{ℤ}
 use lib.ListN.{length, length-append}
 use Rattle.pyramid.specs.declared.Settings.{Settings}
 use Rattle.pyramid.specs.Sizes.{total}
+use Rattle.pyramid.proofs.Sizes.{total-is}
 use Rattle.bale.specs.declared.Note.{Note}
 use Rattle.bale.specs.Words.{le16, le32}
 use Rattle.bale.specs.Files.{shapeSection, binsFrom, binsSection, readingsSection, levelSections, fileOf, fileSize}
@@ -32,10 +33,10 @@ module _ (s : Settings) where
   length-bins = length-numbers (binsFrom s (s .depth)) ∙ omega (arith, length-binsFrom (s .depth))
 
   pub length-file : (note : Note) (levels : List ℤ) → length levels ≡ total s → length (fileOf s note levels) ≡ fileSize s
-  unfolding fileOf fileSize total
+  unfolding fileOf fileSize
   length-file note levels e =
-      let l = length-levels s (s .depth) levels e in
+      let l = length-levels s (s .depth) levels (e ∙ total-is s) in
       let a = length-append (readingsSection note) (levelSections s (s .depth) levels) in
       let b = length-append (binsSection s) (readingsSection note ++ levelSections s (s .depth) levels) in
       length-append (shapeSection s) (binsSection s ++ (readingsSection note ++ levelSections s (s .depth) levels))
-      ∙ omega (arith, length-shape, length-bins, length-readings note)
+      ∙ omega (arith, total-is s, length-shape, length-bins, length-readings note)

@@ -1,10 +1,9 @@
 -- The level sections: written and read, the indices are the same; read and written, the bytes are. Assumes nothing.
 use mathlib.Core.Path.{_≡_, refl, sym, ap, ap₂, _∙_, subst}
-use mathlib.Core.Bool.{_&&_}
 use mathlib.Core.List.{List, [], _∷_, _++_, map}
-use Prim.Native.Nat.{ℕ, zero, suc, _+_, _-_, _*_, _≤_, _<_}
+use Prim.Native.Nat.{ℕ, zero, suc, _+_, _-_, _*_, _<_}
 use native.Mathlib.Omega.{arith}
-use lib.Dec.{T, leb, eqb, eqb→eq}
+use lib.Dec.{T, eqb}
 use lib.IntN.{ℤ, pos}
 use lib.ListN.{length, getD, take, drop, length-append, length-map, length-drop, take-append-drop}
 use lib.Seq.{length-take-le, take-all, take-at, drop-at}
@@ -16,11 +15,12 @@ use Rattle.pyramid.specs.declared.Settings.{Settings}
 use Rattle.pyramid.specs.Settings.{bin}
 use Rattle.pyramid.specs.Sizes.{nodesAt, nodesTo}
 use Rattle.pyramid.specs.Buffers.{Bytes}
-use Rattle.pyramid.specs.Refusals.{unless, first, indexOk}
-use Rattle.pyramid.proofs.Refusals.{first-none, first-skip, unless-holds, unless-none}
-use Rattle.pyramid.proofs.CheckedLevels.{checked}
-use Rattle.bale.specs.Words.{le16, words, u16At, wordsAt, indexWord, wordIndex, indicesAt}
-use Rattle.bale.specs.Sections.{numbersSection, sectionRefusal}
+use Rattle.pyramid.specs.Refusals.{indexOk}
+use Rattle.pyramid.proofs.Refusals.{first-nil, first-none, first-pass, unless-holds, unless-none}
+use Rattle.pyramid.proofs.Sizes.{nodesTo-zero, nodesTo-suc}
+use Rattle.pyramid.proofs.CheckedLevels.{checked, checked-zero, checked-suc}
+use Rattle.bale.specs.Words.{wordsAt, indexWord, wordIndex, indicesAt}
+use Rattle.bale.specs.Sections.{numbersSection}
 use Rattle.bale.specs.Files.{levelSection, levelSections}
 use Rattle.bale.specs.Reader.{levelsFrom, levelSectionRefusal, levelSectionsRefusal}
 use Rattle.bale.proofs.Stands.{Stands, stands-front, stands-back, stands-join}
@@ -95,12 +95,14 @@ module _ {bytes : List ℕ} {at : ℕ} where
 
 module _ (s : Settings) where
   pub length-levels : (l : ℕ) (ms : List ℤ) → length ms ≡ nodesTo s l → length (levelSections s l ms) ≡ 2 * (l + 1) + 2 * nodesTo s l
-  unfolding levelSections nodesTo
+  unfolding levelSections
   length-levels zero ms e =
+      let here = nodesTo-zero s in
       let n : length (take (nodesAt s 0) ms) ≡ nodesAt s 0 = length-take-le (nodesAt s 0) ms (omega arith) in
       omega (arith, length-level (take (nodesAt s 0) ms))
   length-levels (suc l) ms e =
       let k : ℕ = nodesAt s (suc l) in
+      let here = nodesTo-suc s l in
       let n : length (take k ms) ≡ k = length-take-le k ms (omega arith) in
       let d : length (drop k ms) ≡ length ms - k = length-drop k ms in
       length-append (levelSection (take k ms)) (levelSections s l (drop k ms))
@@ -109,25 +111,29 @@ module _ (s : Settings) where
 module _ (s : Settings) (bytes : List ℕ) where
   one-accepted : (l at : ℕ) (ms : List ℤ) → Section bytes at (nodesAt s l) 2 → indicesAt bytes (at + 2) (nodesAt s l) ≡ ms → T (all (indexOk (bin s l)) ms)
       → levelSectionRefusal bytes s l at ≡ 0
-  unfolding levelSectionRefusal first
-  one-accepted l at ms w e t = rw (section-accepted w, e, unless-holds (all (indexOk (bin s l)) ms) 11 t)
+  unfolding levelSectionRefusal
+  one-accepted l at ms w e t =
+      first-pass _ (section-accepted w) (first-pass _ (rw e (unless-holds (all (indexOk (bin s l)) ms) 11 t)) first-nil)
 
   pub levels-read : (l at : ℕ) (ms : List ℤ) → nodesTo s l < 65536 → length ms ≡ nodesTo s l → Shorts ms → T (checked s l ms)
       → Stands (levelSections s l ms) bytes at → at + length (levelSections s l ms) ≡ length bytes
       → (levelSectionsRefusal bytes s l at ≡ 0) × (levelsFrom bytes s l at ≡ ms)
-  unfolding levelSections levelSectionsRefusal levelsFrom nodesTo checked first
+  unfolding levelSections levelSectionsRefusal levelsFrom
   levels-read zero at ms small long short t st end =
       let k : ℕ = nodesAt s 0 in
+      let here = nodesTo-zero s in
       let n : length (take k ms) ≡ k = length-take-le k ms (omega arith) in
-      let (w, e) = level-read k (take k ms) n small (shorts-take k ms short) st in
+      let (w, e) = level-read k (take k ms) n (omega arith) (shorts-take k ms short) st in
       let all-of : take k ms ≡ ms = take-all k ms (omega arith) in
       let last : length bytes ≡ at + 2 + 2 * k = omega (arith, length-level (take k ms)) in
-      (rw (one-accepted 0 at (take k ms) w e t, unless-holds (eqb (length bytes) (at + 2 + 2 * k)) 12 (eqb-of last)), e ∙ all-of)
+      let one = one-accepted 0 at (take k ms) w e (subst T (checked-zero s ms) t) in
+      (first-pass _ one (first-pass _ (unless-holds (eqb (length bytes) (at + 2 + 2 * k)) 12 (eqb-of last)) first-nil), e ∙ all-of)
   levels-read (suc l) at ms small long short t st end =
       let k : ℕ = nodesAt s (suc l) in
+      let here = nodesTo-suc s l in
       let n : length (take k ms) ≡ k = length-take-le k ms (omega arith) in
       let d : length (drop k ms) ≡ length ms - k = length-drop k ms in
-      let (t₁, t₂) = both (all (indexOk (bin s (suc l))) (take k ms)) (checked s l (drop k ms)) t in
+      let (t₁, t₂) = both (all (indexOk (bin s (suc l))) (take k ms)) (checked s l (drop k ms)) (subst T (checked-suc s ms l) t) in
       let one = levelSection (take k ms) in
       let rest = levelSections s l (drop k ms) in
       let (w, e) = level-read k (take k ms) n (omega arith) (shorts-take k ms short) (stands-front one rest st) in
@@ -137,7 +143,7 @@ module _ (s : Settings) (bytes : List ℕ) where
       levels-read l (at + 2 + 2 * k) (drop k ms) (omega arith) (omega arith) (shorts-drop k ms short) t₂ back
       (omega (arith, length-append one rest))
       in
-      (rw (one-accepted (suc l) at (take k ms) w e t₁, z), rw (e, f) (take-append-drop k ms))
+      (first-pass _ (one-accepted (suc l) at (take k ms) w e t₁) (first-pass _ z first-nil), rw (e, f) (take-append-drop k ms))
 
   -- ---- read, then written
 
@@ -149,26 +155,24 @@ module _ (s : Settings) (bytes : List ℕ) where
       (section-whole section, unless-none (all (indexOk (bin s l)) (indicesAt bytes (at + 2) (nodesAt s l))) 10 (first-none _ _ e₁₁ .0))
 
   pub length-from : (l at : ℕ) → length (levelsFrom bytes s l at) ≡ nodesTo s l
-  unfolding levelsFrom nodesTo
-  length-from zero at = length-indices bytes (at + 2) (nodesAt s 0)
+  unfolding levelsFrom
+  length-from zero at = length-indices bytes (at + 2) (nodesAt s 0) ∙ sym (nodesTo-zero s)
   length-from (suc l) at =
       length-append (indicesAt bytes (at + 2) (nodesAt s (suc l))) (levelsFrom bytes s l (at + 2 + 2 * nodesAt s (suc l)))
-      ∙ rw (length-indices bytes (at + 2) (nodesAt s (suc l)), length-from l (at + 2 + 2 * nodesAt s (suc l)))
+      ∙ rw (length-indices bytes (at + 2) (nodesAt s (suc l)), length-from l (at + 2 + 2 * nodesAt s (suc l))) (sym (nodesTo-suc s l))
 
   pub record Written (l at : ℕ) : Type 0 where
     pub stands : Stands (levelSections s l (levelsFrom bytes s l at)) bytes at
-    pub end : at + 2 * (l + 1) + 2 * nodesTo s l ≡ length bytes
     pub lawful : T (checked s l (levelsFrom bytes s l at))
 
   pub levels-stand : Bytes bytes → (l at : ℕ) → levelSectionsRefusal bytes s l at ≡ 0 → Written l at
-  unfolding levelSections levelSectionsRefusal levelsFrom nodesTo checked
+  unfolding levelSections levelSectionsRefusal levelsFrom
   levels-stand bytes-are zero at e =
       let k : ℕ = nodesAt s 0 in
-      let (level, e₁₂) = first-none _ _ e in
+      let (level, _) = first-none _ _ e in
       let (w, t) = one-whole 0 at level in
-      let end : length bytes ≡ at + 2 + 2 * k = eqb→eq _ _ (unless-none (eqb (length bytes) (at + 2 + 2 * k)) 11 (first-none _ _ e₁₂ .0)) in
       let all-of : take k (indicesAt bytes (at + 2) k) ≡ indicesAt bytes (at + 2) k = take-all k _ (omega (arith, length-indices bytes (at + 2) k)) in
-      record { stands = rw all-of (level-stands bytes-are w); end = omega arith; lawful = rw all-of t }
+      record { stands = rw all-of (level-stands bytes-are w); lawful = rw (checked-zero s (indicesAt bytes (at + 2) k), all-of) t }
   levels-stand bytes-are (suc l) at e =
       let k : ℕ = nodesAt s (suc l) in
       let here = indicesAt bytes (at + 2) k in
@@ -182,6 +186,5 @@ module _ (s : Settings) (bytes : List ℕ) where
       let next = subst (λ (p : ℕ). Stands (levelSections s l below) bytes p) place (r .stands) in
       record {
         stands = rw (front, back) (stands-join (levelSection here) (levelSections s l below) (level-stands bytes-are w) next);
-        end = omega (arith, r .end);
-        lawful = rw (front, back) (both-of (all (indexOk (bin s (suc l))) here) (checked s l below) t (r .lawful));
+        lawful = rw (checked-suc s (here ++ below) l, front, back) (both-of (all (indexOk (bin s (suc l))) here) (checked s l below) t (r .lawful));
       }

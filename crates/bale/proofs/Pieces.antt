@@ -18,13 +18,13 @@ use Rattle.mathematics.proofs.Tables.{tabulate-same, tabulate-map}
 use Rattle.mathematics.proofs.Splices.{length-splice, length-part, splice-nil, splice-append, splice-front}
 use Rattle.pyramid.specs.declared.Settings.{Settings}
 use Rattle.pyramid.specs.Settings.{bin}
-use Rattle.pyramid.specs.Sizes.{nodesAt, nodesTo, total}
+use Rattle.pyramid.specs.Sizes.{nodesAt, total}
 use Rattle.bale.specs.declared.Note.{Note}
 use Rattle.bale.specs.Words.{le16, le32, words, indexWord, wordIndex, u16At, wordsAt, indicesAt}
 use Rattle.bale.specs.Readings.{readingBytes}
 use Rattle.bale.specs.Sections.{numbersSection}
 use Rattle.bale.specs.Files.{shapeSection, binsFrom, binsSection, readingsSection, levelSection, levelSections, fileOf, fileSize}
-use Rattle.bale.specs.Reader.{readingsPlace, levelsPlace, levelsFrom}
+use Rattle.bale.specs.Reader.{binsPlace, readingsPlace, levelsPlace, levelsFrom}
 use Rattle.bale.proofs.WordLists.{length-words, words-append, length-wordsAt, getD-wordsAt}
 use Rattle.bale.proofs.LevelTrips.{length-level, length-indices}
 use Rattle.bale.proofs.FileLengths.{length-shape, length-bins, length-readings, length-file, length-binsFrom}
@@ -117,12 +117,6 @@ module _ (at : ℕ) (ms : List ℤ) (l : List ℕ) where
 
 -- ---- the sections of a level and of those below it, whose indices stand from a place on
 
--- a level's nodes, and those of the levels below it
-pub nodes-down : (s : Settings) (l : ℕ) → (l ≡ 0 → ⊥) → nodesTo s l ≡ nodesAt s l + nodesTo s (l - 1)
-unfolding nodesTo
-nodes-down s zero some = absurd (some refl)
-nodes-down s (suc l) some = let e : suc l - 1 ≡ l = omega arith in rw e
-
 pub part-long : (from k : ℕ) (ms : List ℤ) → from + k ≤ length ms → length (part from (from + k) ms) ≡ k
 part-long from k ms h = length-part from (from + k) ms (omega arith) h ∙ omega arith
 
@@ -159,7 +153,7 @@ module _ (s : Settings) (l from at : ℕ) {k : ℕ} (ms : List ℤ) (file : List
 -- ---- the file
 
 pub file-next : (s : Settings) (note : Note) (levels : List ℤ) (l : List ℕ) {a b c d : List ℕ} → length levels ≡ total s → fileSize s ≤ length l
-    → a ≡ splice 0 (shapeSection s) l → b ≡ splice 10 (binsSection s) a → c ≡ splice (readingsPlace (s .depth)) (readingsSection note) b
+    → a ≡ splice 0 (shapeSection s) l → b ≡ splice binsPlace (binsSection s) a → c ≡ splice (readingsPlace (s .depth)) (readingsSection note) b
     → d ≡ splice (levelsPlace (s .depth)) (levelSections s (s .depth) levels) c → d ≡ fileOf s note levels ++ drop (fileSize s) l
 file-next s note levels l long room p q r t =
     let shape = shapeSection s in

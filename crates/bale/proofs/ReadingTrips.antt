@@ -1,6 +1,5 @@
 -- The readings section: written and read, the readings are the same, bit for bit; read and written, the bytes are. Assumes nothing.
-use mathlib.Core.Path.{_≡_, refl, sym, ap, ap₂, _∙_, subst}
-use mathlib.Core.Bool.{_&&_}
+use mathlib.Core.Path.{_≡_, refl, sym, ap, _∙_, subst}
 use mathlib.Core.List.{List, [], _∷_, _++_}
 use Prim.Native.Nat.{ℕ, zero, suc, _+_, _*_, _≤_, _<_}
 use native.Mathlib.Nat.{add-zero}
@@ -9,13 +8,12 @@ use lib.Dec.{T}
 use lib.ListN.{length, getD}
 use Rattle.mathematics.proofs.Tests.{both, both-of}
 use Rattle.pyramid.specs.Buffers.{Bytes}
-use Rattle.pyramid.specs.Refusals.{first}
-use Rattle.pyramid.proofs.Refusals.{first-none}
+use Rattle.pyramid.proofs.Refusals.{first-nil, first-none, first-pass}
 use Rattle.bale.specs.declared.Reading.{Reading}
 use Rattle.bale.specs.declared.Note.{Note}
+use Rattle.bale.specs.declared.Probe.{Probe}
 use Rattle.bale.specs.Words.{le16, le32, u16At, u32At}
-use Rattle.bale.specs.Readings.{readingOk, noteOk, kindOf, numberOf, readingBytes, decode}
-use Rattle.bale.specs.Sections.{sectionRefusal}
+use Rattle.bale.specs.Readings.{readingOk, noteOk, kindOf, numberOf, readingBytes}
 use Rattle.bale.specs.Files.{readingsSection}
 use Rattle.bale.specs.Reader.{readingsPlace, probeAt, noteIn, readingsSectionRefusal}
 use Rattle.bale.specs.RoundTrips.{HeldReading}
@@ -71,7 +69,7 @@ module _ {bytes : List ℕ} {at : ℕ} where
 module _ (bytes : List ℕ) (depth : ℕ) where
   pub readings-read : (note : Note) → HeldReading (note .«before_drier») → HeldReading (note .«at_press») → T (noteOk note)
       → Stands (readingsSection note) bytes (readingsPlace depth) → (readingsSectionRefusal bytes depth ≡ 0) × (noteIn bytes depth ≡ note)
-  unfolding noteOk readingsSection readingsSectionRefusal noteIn first le16 le32
+  unfolding noteOk readingsSection readingsSectionRefusal noteIn le16 le32
   readings-read note held-drier held-press ok s =
       let (drier-ok, press-ok) = both (readingOk (note .«before_drier»)) (readingOk (note .«at_press»)) ok in
       let drier = readingBytes (note .«before_drier») in
@@ -83,7 +81,8 @@ module _ (bytes : List ℕ) (depth : ℕ) where
       let b = probe-read (note .«at_press») held-press press-ok second in
       let counted : u16At bytes (readingsPlace depth) ≡ 2 = word-read (omega arith) (stands-front (le16 2) (drier ++ press) s) in
       let w : Section bytes (readingsPlace depth) 2 5 = record { present = omega (arith, s .room); counted = counted } in
-      (rw (section-accepted w, a, b), rw (a, b))
+      let refusal : Probe → ℕ = λ p. p .refusal in
+      (first-pass _ (section-accepted w) (first-pass _ (ap refusal a) (first-pass _ (ap refusal b) first-nil)), rw (a, b))
 
   pub readings-stand : Bytes bytes → readingsSectionRefusal bytes depth ≡ 0
       → T (noteOk (noteIn bytes depth)) × Stands (readingsSection (noteIn bytes depth)) bytes (readingsPlace depth)

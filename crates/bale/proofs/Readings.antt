@@ -10,8 +10,7 @@ use borrow.Author.Tests.{ne-eqb, eq-eqb, lt-ltb, le-ltb, le-leb, lt-leb, eqb-tru
 use lib.Dec.{T, ltb, leb, eqb}
 use lib.Ieee.{Float, nan, inf, fin, binary32, le, lt, eq, isNan, nanBits, toBits, ofBits}
 use lib.Ieee.Bits.{nanBits-above, nanBits-is, toBits-ofBits, ofBits-toBits, toBits-lt}
-use Rattle.pyramid.specs.Refusals.{unless}
-use Rattle.pyramid.specs.Calls.{leaves}
+use Rattle.pyramid.proofs.Refusals.{unless-passes, unless-fails, leaves-new, leaves-kept}
 use Rattle.bale.specs.declared.Reading.{Reading}
 use Rattle.bale.specs.declared.Reading.the-variants.{NotFitted, Percentage, Fault}
 use Rattle.bale.specs.declared.Note.{Note}
@@ -112,12 +111,12 @@ abbrev noCode : Code
 noCode = record { refusal = 4; kind = 0; number = 0 }
 
 code-yes : (r : Reading) → readingOk r ≡ true → record { refusal = 0; kind = kindOf r; number = numberOf r } ≡ codeOf r
-unfolding codeOf unless leaves
-code-yes r e = rw e
+unfolding codeOf
+code-yes r e = rw (unless-passes 4 e, leaves-new 0 (kindOf r) 0 refl, leaves-new 0 (numberOf r) 0 refl)
 
 code-no : (r : Reading) → readingOk r ≡ false → noCode ≡ codeOf r
-unfolding codeOf unless leaves
-code-no r e = rw e
+unfolding codeOf
+code-no r e = rw (unless-fails 4 e, leaves-kept 4 (kindOf r) 0 (λ z. omega (arith, z)), leaves-kept 4 (numberOf r) 0 (λ z. omega (arith, z)))
 
 pub code-lawful : (r : Reading) → T (readingOk r) → codeOf r ≡ record { refusal = 0; kind = kindOf r; number = numberOf r }
 code-lawful r t = sym (code-yes r (holds (readingOk r) t))
@@ -171,12 +170,12 @@ noProbe = record { refusal = 4; reading = NotFitted }
 
 module _ (k n : ℕ) where
   decode-yes : codedOk k n ≡ true → record { refusal = 0; reading = readingOf k n } ≡ decode k n
-  unfolding decode unless leaves
-  decode-yes e = rw e
+  unfolding decode
+  decode-yes e = rw (unless-passes 4 e, leaves-new 0 (readingOf k n) NotFitted refl)
 
   decode-no : codedOk k n ≡ false → noProbe ≡ decode k n
-  unfolding decode unless leaves
-  decode-no e = rw e
+  unfolding decode
+  decode-no e = rw (unless-fails 4 e, leaves-kept 4 (readingOf k n) NotFitted (λ z. omega (arith, z)))
 
   pub decode-other : (k ≡ 0 → ⊥) → (k ≡ 1 → ⊥) → (k ≡ 2 → ⊥) → noProbe ≡ decode k n
   unfolding codedOk

@@ -1,34 +1,32 @@
 -- Demand 2 about the file: what is written is read back as it was, and a file that is read is written again byte for byte. Assumes nothing.
-use mathlib.Core.Path.{_≡_, refl, sym, ap, _∙_, subst}
-use mathlib.Core.List.{List, [], _∷_, _++_}
-use Prim.Native.Nat.{ℕ, zero, suc, _+_, _*_, _≤_, _<_}
+use mathlib.Core.Path.{_≡_, sym, ap, _∙_, subst}
+use mathlib.Core.List.{List, _++_}
+use Prim.Native.Nat.{ℕ, _+_, _≤_}
 use native.Mathlib.Omega.{arith}
-use lib.Dec.{T, leb, eqb, le→leb, eqb→eq}
+use lib.Dec.{T, eqb}
 use lib.IntN.{ℤ}
-use lib.ListN.{length, drop}
+use lib.ListN.{length}
 use Rattle.pyramid.specs.declared.Settings.{Settings}
 use Rattle.pyramid.specs.Settings.{binsOk}
-use Rattle.pyramid.specs.Sizes.{nodesTo, total}
+use Rattle.pyramid.specs.Sizes.{total}
 use Rattle.pyramid.specs.Buffers.{Bytes}
-use Rattle.pyramid.specs.Refusals.{unless, first, settingsRefusal, shapeRefusal, valuesOk}
-use Rattle.pyramid.specs.Calls.{leaves}
-use Rattle.pyramid.proofs.Refusals.{first-none, unless-holds, unless-none, settings-parts, settings-bins}
-use Rattle.pyramid.proofs.Sizes.{total-most}
+use Rattle.pyramid.specs.Refusals.{settingsRefusal, shapeRefusal, valuesOk}
+use Rattle.pyramid.proofs.Refusals.{first-nil, first-none, first-pass, unless-holds, unless-none, settings-parts, settings-bins}
+use Rattle.pyramid.proofs.Sizes.{total-is, total-most}
 use Rattle.pyramid.proofs.CheckedLevels.{checked, levels-checked}
 use Rattle.bale.specs.declared.Note.{Note}
 use Rattle.bale.specs.Words.{u16At}
-use Rattle.bale.specs.Readings.{noteOk}
-use Rattle.bale.specs.Sections.{sectionRefusal}
 use Rattle.bale.specs.Files.{shapeSection, binsSection, readingsSection, levelSections, fileOf, fileSize}
 use Rattle.bale.specs.Reader.{binsPlace, readingsPlace, levelsPlace, settingsIn, noteIn, levelsFrom, levelsIn, shapeSectionRefusal, binsSectionRefusal, readingsSectionRefusal, levelSectionsRefusal, bodyRefusal}
-use Rattle.bale.specs.Calls.{writeRefusal, writing, readRefusal, baleOf, reading}
-use Rattle.bale.specs.RoundTrips.{Held, WrittenIsRead, WrittenThenRead, ReadIsWritten, ReadThenWritten}
+use Rattle.bale.specs.Calls.{writeRefusal, readRefusal, reading}
+use Rattle.bale.specs.RoundTrips.{Held, WrittenThenRead, ReadThenWritten}
 use Rattle.bale.proofs.Stands.{Stands, stands-all, stands-whole, stands-front, stands-back, stands-join}
 use Rattle.bale.proofs.Sections.{eqb-of, Section, section-accepted, section-whole}
 use Rattle.bale.proofs.LevelTrips.{shorts, length-levels, levels-read, length-from, Written, levels-stand}
 use Rattle.bale.proofs.ReadingTrips.{readings-read, readings-stand}
 use Rattle.bale.proofs.FileLengths.{length-shape, length-bins, length-readings, length-file}
-use Rattle.bale.proofs.AcceptedFiles.{AcceptedWriting, accepted-writing, AcceptedFile, accepted-file}
+use Rattle.bale.proofs.AcceptedFiles.{AcceptedWriting, accepted-writing, writing-accepted, AcceptedFile, accepted-file}
+use Rattle.bale.proofs.Answers.{writing-is, reading-is}
 use Rattle.bale.proofs.SettingsTrips.{ReadSettings, settings-read, shape-stands, bins-stand}
 
 -- ---- the sections of a file, at their places
@@ -105,34 +103,42 @@ module _ (s : Settings) (note : Note) (levels : List ℤ) (room : ℕ) (held : H
   long = length-file s note levels (a .long)
 
   leveled : (levelSectionsRefusal file s (s .depth) (levelsPlace (s .depth)) ≡ 0) × (levelsFrom file s (s .depth) (levelsPlace (s .depth)) ≡ levels)
-  unfolding total fileSize
+  unfolding fileSize
   leveled =
       let t : T (checked s (s .depth) levels) = subst T (levels-checked s levels (a .long)) (a .valued) in
       let small : total s ≤ 22359 = total-most s (a .law .shaped) in
-      let sections = length-levels s (s .depth) levels (a .long) in
-      levels-read s file (s .depth) (levelsPlace (s .depth)) levels (omega arith) (a .long) (shorts levels (held .short)) t (parts .leveled) (omega (arith, long))
+      let nodes = total-is s in
+      let full = a .long ∙ nodes in
+      let sections = length-levels s (s .depth) levels full in
+      levels-read s file (s .depth) (levelsPlace (s .depth)) levels (omega arith) full (shorts levels (held .short)) t (parts .leveled) (omega (arith, long))
 
   bins-accepted : binsSectionRefusal file ≡ 0
-  unfolding binsSectionRefusal first
+  unfolding binsSectionRefusal
   bins-accepted =
-      rw (depth-is s file (settings .is), section-accepted (settings .bins), settings .is, unless-holds (binsOk s) 3 (settings-parts s (a .settings) .1))
+      rw (depth-is s file (settings .is), settings .is)
+      (first-pass _ (section-accepted (settings .bins)) (first-pass _ (unless-holds (binsOk s) 3 (settings-parts s (a .settings) .1)) first-nil))
 
   shape-accepted : shapeSectionRefusal file ≡ 0
-  unfolding shapeSectionRefusal first
-  shape-accepted = rw (section-accepted (settings .shape), settings .is, settings-parts s (a .settings) .0)
+  unfolding shapeSectionRefusal
+  shape-accepted =
+      rw (settings .is) (first-pass _ (section-accepted (settings .shape)) (first-pass _ (settings-parts s (a .settings) .0) first-nil))
 
   body-accepted : bodyRefusal file ≡ 0
-  unfolding bodyRefusal first
-  body-accepted = rw (bins-accepted, depth-is s file (settings .is), settings .is, noted .0, leveled .0)
+  unfolding bodyRefusal
+  body-accepted =
+      rw (depth-is s file (settings .is), settings .is)
+      (first-pass _ bins-accepted (first-pass _ (noted .0) (first-pass _ (leveled .0) first-nil)))
 
   module _ (lent : List ℤ) (e : length lent ≡ total s) where
     accepted : readRefusal file (length lent) ≡ 0
-    unfolding readRefusal first
-    accepted = rw (shape-accepted, settings .is, unless-holds (eqb (length lent) (total s)) 6 (eqb-of e), body-accepted)
+    unfolding readRefusal
+    accepted =
+        rw (settings .is)
+        (first-pass _ shape-accepted
+        (first-pass _ (unless-holds (eqb (length lent) (total s)) 6 (eqb-of e)) (first-pass _ body-accepted first-nil)))
 
     is-read : reading file lent ≡ record { answer = record { refusal = 0; settings = s; note = note }; levels = levels }
-    unfolding reading baleOf leaves
-    is-read = rw (accepted, depth-is s file (settings .is), settings .is, noted .1, leveled .1)
+    is-read = reading-is file lent accepted ∙ rw (depth-is s file (settings .is), settings .is, noted .1, leveled .1)
 
 pub written-then-read : WrittenThenRead
 written-then-read s note levels room held e =
@@ -196,12 +202,12 @@ module _ (bytes : List ℕ) (places : ℕ) (all : Bytes bytes) (e : readRefusal 
       }
 
   found-long : length (levelsIn bytes) ≡ total found
-  unfolding settingsIn total
-  found-long = length-from found bytes depth (levelsPlace depth)
+  unfolding settingsIn
+  found-long = length-from found bytes depth (levelsPlace depth) ∙ sym (total-is found)
 
   file-long : fileSize found ≡ length bytes
-  unfolding settingsIn fileSize total
-  file-long = omega (arith, written .end)
+  unfolding fileSize
+  file-long = omega (arith, whole .whole, total-is found)
 
   again : fileOf found (noteIn bytes depth) (levelsIn bytes) ≡ bytes
   again =
@@ -209,25 +215,20 @@ module _ (bytes : List ℕ) (places : ℕ) (all : Bytes bytes) (e : readRefusal 
       (length-file found (noteIn bytes depth) (levelsIn bytes) found-long ∙ file-long)
 
   accepted-again : (room : ℕ) → length bytes ≤ room → writeRefusal found (noteIn bytes depth) (levelsIn bytes) room ≡ 0
-  unfolding settingsIn writeRefusal first
+  unfolding settingsIn
   accepted-again room h =
       let settings : settingsRefusal found ≡ 0 = settings-bins found (looked .shape) ∙ unless-holds (binsOk found) 3 (looked .bins) in
-      let fits : T (leb (fileSize found) room) = le→leb (fileSize found) room (omega (arith, file-long)) in
       let lawful : T (checked found (found .depth) (levelsIn bytes)) = written .lawful in
       let values : T (valuesOk found (levelsIn bytes)) = subst T (sym (levels-checked found (levelsIn bytes) found-long)) lawful in
-      rw (
-        settings,
-        unless-holds (noteOk (noteIn bytes depth)) 4 (readings-stand bytes depth all (looked .readings) .0),
-        unless-holds (eqb (length (levelsIn bytes)) (total found)) 6 (eqb-of found-long),
-        unless-holds (leb (fileSize found) room) 8 fits,
-        unless-holds (valuesOk found (levelsIn bytes)) 11 values,
-      )
+      writing-accepted found (noteIn bytes depth) (levelsIn bytes) room settings (readings-stand bytes depth all (looked .readings) .0) found-long
+      (omega (arith, file-long)) values
 
 pub read-then-written : ReadThenWritten
-unfolding reading baleOf writing leaves
 read-then-written bytes lent all e =
     record {
-      same = rw e (again bytes (length lent) all e);
+      same = rw (reading-is bytes lent e) (again bytes (length lent) all e);
       written = λ file h.
-          rw (e, accepted-again bytes (length lent) all e (length file) h, file-long bytes (length lent) all e, again bytes (length lent) all e);
+          rw (reading-is bytes lent e)
+          (writing-is (settingsIn bytes) (noteIn bytes (u16At bytes 6)) (levelsIn bytes) file (accepted-again bytes (length lent) all e (length file) h)
+          ∙ rw (file-long bytes (length lent) all e, again bytes (length lent) all e));
     }

@@ -8,8 +8,9 @@ use lib.IntN.{ℤ}
 use lib.ListN.{length, getD, List·getD-map}
 use Rattle.mathematics.specs.Tests.{all}
 use Rattle.pyramid.specs.declared.IndexRange.{IndexRange}
-use Rattle.pyramid.specs.Refusals.{unless, first, indexOk}
+use Rattle.pyramid.specs.Refusals.{indexOk}
 use Rattle.pyramid.specs.IndexRanges.{widened, rangeOk}
+use Rattle.pyramid.proofs.Refusals.{answers-fails, answers-passes}
 use Rattle.pyramid.proofs.IndexRanges.{Ranged, ranged-next, ranged-end}
 use Rattle.bale.specs.Words.{u16At, wordsAt, wordIndex, indicesAt}
 use Rattle.bale.specs.Sections.{sectionRefusal}
@@ -23,17 +24,17 @@ items-small count size c s = mul-le-mul c s
 
 module _ (bytes : List ℕ) (at count size : ℕ) where
   pub count-absent : length bytes < at + 2 → 9 ≡ sectionRefusal bytes at count size
-  unfolding sectionRefusal unless first
-  count-absent h = rw (lt-leb _ _ h)
+  unfolding sectionRefusal
+  count-absent h = answers-fails _ (lt-leb _ _ h)
 
   module _ (h : at + 2 ≤ length bytes) where
     pub count-wrong : (u16At bytes at ≡ count → ⊥) → 10 ≡ sectionRefusal bytes at count size
-    unfolding sectionRefusal unless first
-    count-wrong wrong = rw (le-leb _ _ h, ne-eqb _ _ wrong)
+    unfolding sectionRefusal
+    count-wrong wrong = answers-fails _ (ne-eqb _ _ wrong) ∙ answers-passes 9 _ (le-leb _ _ h)
 
     pub items-absent : u16At bytes at ≡ count → length bytes < at + 2 + count * size → 9 ≡ sectionRefusal bytes at count size
-    unfolding sectionRefusal unless first
-    items-absent counted short = rw (le-leb _ _ h, eq-eqb _ _ counted, lt-leb _ _ short)
+    unfolding sectionRefusal
+    items-absent counted short = answers-fails _ (lt-leb _ _ short) ∙ answers-passes 10 _ (eq-eqb _ _ counted) ∙ answers-passes 9 _ (le-leb _ _ h)
 
 -- ---- the indices of a level
 

@@ -1,13 +1,12 @@
 -- Sections: what a count and its items are, which refusal they give, and a section of numbers written and read. Assumes nothing.
-use mathlib.Core.Path.{_≡_, refl, sym, ap, _∙_, subst}
-use mathlib.Core.List.{List, [], _∷_, _++_}
+use mathlib.Core.Path.{_≡_, subst}
+use mathlib.Core.List.{List, _++_}
 use Prim.Native.Nat.{ℕ, _+_, _*_, _≤_, _<_}
 use native.Mathlib.Omega.{arith}
 use lib.Dec.{T, leb, eqb, leb→le, le→leb, eqb→eq, eqb-refl}
-use lib.ListN.{length, length-append}
+use lib.ListN.{length}
 use Rattle.pyramid.specs.Buffers.{Bytes}
-use Rattle.pyramid.specs.Refusals.{unless, first}
-use Rattle.pyramid.proofs.Refusals.{first-none, first-skip, unless-holds, unless-none}
+use Rattle.pyramid.proofs.Refusals.{first-nil, first-none, first-pass, unless-holds, unless-none}
 use Rattle.bale.specs.Words.{le16, words, u16At, wordsAt}
 use Rattle.bale.specs.Sections.{numbersSection, sectionRefusal}
 use Rattle.bale.proofs.Stands.{Stands, stands-front, stands-back, stands-join}
@@ -23,13 +22,11 @@ pub record Section (bytes : List ℕ) (at count size : ℕ) : Type 0 where
 
 module _ {bytes : List ℕ} {at count size : ℕ} where
   pub section-accepted : Section bytes at count size → sectionRefusal bytes at count size ≡ 0
-  unfolding sectionRefusal first
+  unfolding sectionRefusal
   section-accepted w =
-      rw (
-        unless-holds (leb (at + 2) (length bytes)) 9 (le→leb (at + 2) (length bytes) (omega (arith, w .present))),
-        unless-holds (eqb (u16At bytes at) count) 10 (eqb-of (w .counted)),
-        unless-holds (leb (at + 2 + count * size) (length bytes)) 9 (le→leb _ _ (w .present)),
-      )
+      first-pass _ (unless-holds (leb (at + 2) (length bytes)) 9 (le→leb (at + 2) (length bytes) (omega (arith, w .present))))
+      (first-pass _ (unless-holds (eqb (u16At bytes at) count) 10 (eqb-of (w .counted)))
+      (first-pass _ (unless-holds (leb (at + 2 + count * size) (length bytes)) 9 (le→leb _ _ (w .present))) first-nil))
 
   pub section-whole : sectionRefusal bytes at count size ≡ 0 → Section bytes at count size
   unfolding sectionRefusal

@@ -1,10 +1,10 @@
 -- 16-bit numbers that stand in a list of bytes are read as themselves, and the numbers that are read stand there. Assumes nothing.
-use mathlib.Core.Path.{_≡_, refl, sym, ap, ap₂, _∙_, subst}
+use mathlib.Core.Path.{_≡_, refl, sym, ap, ap₂, _∙_}
 use mathlib.Core.List.{List, [], _∷_, _++_, append-assoc}
 use Prim.Native.Nat.{ℕ, zero, suc, _+_, _-_, _*_, _/_, _%_, _≤_, _<_}
 use native.Mathlib.Nat.{not-suc-le-zero, add-zero}
 use native.Mathlib.Omega.{arith}
-use lib.ListN.{length, getD, length-append}
+use lib.ListN.{length, getD}
 use Rattle.pyramid.specs.Buffers.{Bytes}
 use Rattle.bale.specs.Words.{le16, words, u16At, wordsAt}
 use Rattle.bale.proofs.Stands.{Stands, stands-front, stands-back, stands-join}

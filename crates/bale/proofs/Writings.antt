@@ -1,5 +1,5 @@
 -- What the writer answers before it writes: a file's size, and the first rule that is broken. Assumes nothing.
-use mathlib.Core.Path.{_≡_, refl, sym, _∙_}
+use mathlib.Core.Path.{_≡_, refl, sym, ap, _∙_}
 use mathlib.Core.Bool.{Bool, true, false}
 use mathlib.Core.List.{List, [], _∷_}
 use Prim.Native.Nat.{ℕ, _+_, _*_, _≤_, _<_}
@@ -11,56 +11,48 @@ use lib.ListN.{length}
 use Rattle.pyramid.specs.declared.Settings.{Settings}
 use Rattle.pyramid.specs.declared.Nodes.{Nodes}
 use Rattle.pyramid.specs.Sizes.{total}
-use Rattle.pyramid.specs.Calls.{leaves}
 use Rattle.pyramid.specs.Refusals.{unless, first, settingsRefusal, valuesOk, levelsRefusal}
 use Rattle.pyramid.specs.Answers.{nodesAnswer}
-use Rattle.pyramid.proofs.Refusals.{leaves-new, leaves-kept}
+use Rattle.pyramid.proofs.Refusals.{first-over, first-last, unless-elim, unless-passes, answers-stop, answers-skip, answers-fails, answers-passes, levels-parts, leaves-new, leaves-kept}
+use Rattle.pyramid.proofs.ShapeAnswers.{nodes-answer, nodes-total}
 use Rattle.bale.specs.declared.Note.{Note}
 use Rattle.bale.specs.declared.FileSize.{FileSize}
 use Rattle.bale.specs.Readings.{noteOk}
 use Rattle.bale.specs.Files.{fileSize}
 use Rattle.bale.specs.Calls.{sizeAnswer, writeRefusal}
-use Rattle.bale.proofs.Checks.{stop, skip}
 
 -- ---- the size
 
-module _ (s : Settings) (t : Nodes) (e : t ≡ nodesAnswer s) where
-  refusal-is : t .refusal ≡ settingsRefusal s
-  unfolding nodesAnswer
-  refusal-is = rw e
+pub size-is : (s : Settings) → settingsRefusal s ≡ 0 → sizeAnswer s ≡ record { refusal = 0; size = fileSize s }
+unfolding sizeAnswer
+size-is s e = rw (e, leaves-new 0 (fileSize s) 0 refl)
 
+module _ (s : Settings) (t : Nodes) (e : t ≡ nodesAnswer s) where
   pub size-refused : (t .refusal ≡ 0 → ⊥) → record { refusal = t .refusal; size = 0 } ≡ sizeAnswer s
   unfolding sizeAnswer
-  size-refused refused = rw (← refusal-is, leaves-kept _ _ _ refused)
-
-  nodes-are : t .refusal ≡ 0 → t .nodes ≡ total s
-  unfolding nodesAnswer
-  nodes-are none = rw e (leaves-new _ _ _ (sym refusal-is ∙ none))
+  size-refused refused = rw (← (nodes-answer s t e), leaves-kept (t .refusal) (fileSize s) 0 refused)
 
   pub size-found : t .refusal ≡ 0 → record { refusal = 0; size = 24 + 4 * (s .depth + 1) + 2 * t .nodes } ≡ sizeAnswer s
-  unfolding sizeAnswer fileSize leaves
-  size-found none = rw (nodes-are none, ← refusal-is, none)
+  unfolding fileSize
+  size-found none = rw (nodes-total s t e none) (sym (size-is s (sym (nodes-answer s t e) ∙ none)))
 
 -- ---- number 8 comes between 6 and 11, which are the levels' own
 
 six : {r : ℕ} (lengths values fits : Bool) → r ≡ first (unless lengths 6 ∷ unless values 11 ∷ []) → r ≡ 6
     → 6 ≡ first (unless lengths 6 ∷ unless fits 8 ∷ unless values 11 ∷ [])
-unfolding unless first
-six true true fits e is = absurd (omega arith)
-six true false fits e is = absurd (omega arith)
-six false values fits e is = refl
+six true values fits e is =
+    let eleven : unless values 11 ≡ 6 = sym (e ∙ sym (answers-passes 6 _ refl) ∙ first-last _) ∙ is in
+    absurd (unless-elim (λ n. n ≡ 6 → ⊥) (λ z. omega (arith, z)) values 11 (λ z. omega (arith, z)) eleven)
+six false values fits e is = answers-fails _ refl
 
 eight : {r : ℕ} (lengths values fits : Bool) → r ≡ first (unless lengths 6 ∷ unless values 11 ∷ []) → (r ≡ 6 → ⊥) → fits ≡ false
     → 8 ≡ first (unless lengths 6 ∷ unless fits 8 ∷ unless values 11 ∷ [])
-unfolding unless first
-eight true values fits e allowed short = rw short
-eight false values fits e allowed short = absurd (allowed e)
+eight true values fits e allowed short = answers-fails _ short ∙ answers-passes 6 _ refl
+eight false values fits e allowed short = absurd (allowed (e ∙ sym (answers-fails _ refl)))
 
-other : {r : ℕ} (lengths values fits : Bool) → r ≡ first (unless lengths 6 ∷ unless values 11 ∷ []) → (r ≡ 6 → ⊥) → fits ≡ true
+other : {r : ℕ} (lengths values fits : Bool) → r ≡ first (unless lengths 6 ∷ unless values 11 ∷ []) → fits ≡ true
     → r ≡ first (unless lengths 6 ∷ unless fits 8 ∷ unless values 11 ∷ [])
-unfolding unless first
-other true values fits e allowed long = e ∙ rw long
-other false values fits e allowed long = absurd (allowed e)
+other lengths values fits e long = rw (unless-passes 8 long, first-over) e
 
 -- ---- the rules
 
@@ -71,12 +63,12 @@ module _ (s : Settings) (note : Note) (levels : List ℤ) (room : ℕ) (size : F
 
   pub settings-refused : (size .refusal ≡ 0 → ⊥) → size .refusal ≡ writeRefusal s note levels room
   unfolding writeRefusal
-  settings-refused refused = stop _ settings-is refused
+  settings-refused refused = answers-stop _ settings-is refused
 
   module _ (none : size .refusal ≡ 0) {ok : Bool} (n : ok ≡ noteOk note) where
     pub note-refused : ok ≡ false → 4 ≡ writeRefusal s note levels room
-    unfolding writeRefusal unless first
-    note-refused bad = rw (← settings-is, none, ← n, bad)
+    unfolding writeRefusal
+    note-refused bad = answers-fails _ (sym n ∙ bad) ∙ answers-skip _ settings-is none
 
     module _ (good : ok ≡ true) {r : ℕ} (l : r ≡ levelsRefusal s levels) where
       -- the rules that are left
@@ -84,22 +76,20 @@ module _ (s : Settings) (note : Note) (levels : List ℤ) (room : ℕ) (size : F
       later = first (unless (eqb (length levels) (total s)) 6 ∷ unless (leb (fileSize s) room) 8 ∷ unless (valuesOk s levels) 11 ∷ [])
 
       later-is : later ≡ writeRefusal s note levels room
-      unfolding writeRefusal unless first
-      later-is = rw (← settings-is, none, ← n, good)
+      unfolding writeRefusal
+      later-is = answers-passes 4 _ (sym n ∙ good) ∙ answers-skip _ settings-is none
 
       levels-are : r ≡ first (unless (eqb (length levels) (total s)) 6 ∷ unless (valuesOk s levels) 11 ∷ [])
-      unfolding levelsRefusal
-      levels-are = l ∙ sym (skip _ settings-is none)
+      levels-are = l ∙ levels-parts s levels (sym settings-is ∙ none)
 
-      size-is : size .size ≡ fileSize s
-      unfolding sizeAnswer
-      size-is = rw e (leaves-new _ _ _ (sym settings-is ∙ none))
+      needed : size .size ≡ fileSize s
+      needed = ap (λ (x : FileSize). x .size) (e ∙ size-is s (sym settings-is ∙ none))
 
       pub lengths-refused : r ≡ 6 → 6 ≡ writeRefusal s note levels room
       lengths-refused is = six _ _ _ levels-are is ∙ later-is
 
       pub room-refused : (r ≡ 6 → ⊥) → room < size .size → 8 ≡ writeRefusal s note levels room
-      room-refused allowed short = eight _ _ _ levels-are allowed (lt-leb (fileSize s) room (rw (← size-is) short)) ∙ later-is
+      room-refused allowed short = eight _ _ _ levels-are allowed (lt-leb (fileSize s) room (rw (← needed) short)) ∙ later-is
 
-      pub values-refused : (r ≡ 6 → ⊥) → size .size ≤ room → r ≡ writeRefusal s note levels room
-      values-refused allowed long = other _ _ _ levels-are allowed (le-leb (fileSize s) room (rw (← size-is) long)) ∙ later-is
+      pub values-refused : size .size ≤ room → r ≡ writeRefusal s note levels room
+      values-refused long = other _ _ _ levels-are (le-leb (fileSize s) room (rw (← needed) long)) ∙ later-is

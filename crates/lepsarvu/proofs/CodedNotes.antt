@@ -1,5 +1,5 @@
 -- The writer that is handed kinds and numbers for its readings: the first refusal, and what is left. Assumes nothing.
-use mathlib.Core.Path.{_≡_, sym, ap, _∙_}
+use mathlib.Core.Path.{_≡_, refl, sym, ap, _∙_}
 use mathlib.Core.List.{List, [], _∷_}
 use Prim.Native.Nat.{ℕ}
 use native.Mathlib.Decide.{ℕ-discrete}
@@ -15,6 +15,7 @@ use Rattle.bale.specs.declared.FileSize.{FileSize}
 use Rattle.bale.specs.Readings.{decode}
 use Rattle.bale.specs.Files.{fileSize}
 use Rattle.bale.specs.Calls.{writeRefusal, writing}
+use Rattle.bale.proofs.Answers.{writing-refusal, writing-is, writing-refused}
 use Rattle.lepsarvu.specs.Exports.{Coded, noteOf, codedRefusal, codedFile, codedSize}
 
 -- the two readings
@@ -56,29 +57,28 @@ module _ (s : Settings) (c : Coded) (levels : List ℤ) (file : List ℕ) where
       module _ (z : m ≡ 0) {note : Note} (n : note ≡ noteOf c) {answer : FileSize} {new : List ℕ} (a : answer ≡ writing s note levels file .answer)
           (f : new ≡ writing s note levels file .file) where
         refusal-is : answer .refusal ≡ codedRefusal s c levels (length file)
-        unfolding writing
-        refusal-is = ap (λ (x : FileSize). x .refusal) a ∙ rw n (sym (coded-is z))
+        refusal-is = ap (λ (x : FileSize). x .refusal) a ∙ writing-refusal s note levels file ∙ rw n (sym (coded-is z))
 
         written : answer .refusal ≡ 0 → (old : ℕ)
             → (answer .refusal ≡ codedRefusal s c levels (length file)) × ((new ≡ codedFile s c levels file) × (answer .size ≡ codedSize s c levels (length file) old))
-        unfolding writing codedFile codedSize
+        unfolding codedFile codedSize
         written none old =
             let r : writeRefusal s (noteOf c) levels (length file) ≡ 0 = sym (coded-is z) ∙ sym refusal-is ∙ none in (
               refusal-is,
               (
                 f ∙ rw (n, coded-is z) (sym (leaves-new _ _ _ r)),
-                ap (λ (x : FileSize). x .size) a ∙ rw (n, coded-is z) (leaves-new _ _ _ r ∙ sym (leaves-new _ _ _ r)),
+                ap (λ (x : FileSize). x .size) a ∙ rw (n, coded-is z, writing-is s (noteOf c) levels file r) (sym (leaves-new _ _ _ r)),
               ),
             )
 
         unwritten : (answer .refusal ≡ 0 → ⊥) → (old : ℕ)
             → (answer .refusal ≡ codedRefusal s c levels (length file)) × ((new ≡ codedFile s c levels file) × (old ≡ codedSize s c levels (length file) old))
-        unfolding writing codedFile codedSize
+        unfolding codedFile codedSize
         unwritten refused old =
             let r : writeRefusal s (noteOf c) levels (length file) ≡ 0 → ⊥ = λ x. refused (refusal-is ∙ coded-is z ∙ x) in (
               refusal-is,
               (
-                f ∙ rw (n, coded-is z) (leaves-kept _ _ _ r ∙ sym (leaves-kept _ _ _ r)),
+                f ∙ rw (n, coded-is z) (sym (writing-refused s (noteOf c) levels file refl r .1) ∙ sym (leaves-kept _ _ _ r)),
                 rw (coded-is z) (sym (leaves-kept _ _ _ r)),
               ),
             )

@@ -1,6 +1,6 @@
 -- The values of a level buffer tested level by level, as whoever reads one level after another tests them: level N first, each index with
 -- the bin of its level. Assumes nothing.
-use mathlib.Core.Path.{_≡_, sym, ap, ap₂, _∙_}
+use mathlib.Core.Path.{_≡_, refl, sym, ap, ap₂, _∙_}
 use mathlib.Core.Bool.{Bool, _&&_}
 use mathlib.Core.List.{List}
 use Prim.Native.Nat.{ℕ, zero, suc, _+_, _-_, _≤_}
@@ -22,6 +22,16 @@ use Rattle.pyramid.proofs.LevelParts.{start-top, start-below, level-par
 unfoldable pub checked : Settings → ℕ → List ℤ → Bool
 checked s zero indices = all (indexOk (bin s 0)) (take (nodesAt s 0) indices)
 checked s (suc l) indices = all (indexOk (bin s (suc l))) (take (nodesAt s (suc l)) indices) && checked s l (drop (nodesAt s (suc l)) indices)
+
+module _ (s : Settings) (indices : List ℤ) where
+  pub checked-zero : checked s 0 indices ≡ all (indexOk (bin s 0)) (take (nodesAt s 0) indices)
+  unfolding checked
+  checked-zero = refl
+
+  pub checked-suc : (l : ℕ)
+      → checked s (suc l) indices ≡ (all (indexOk (bin s (suc l))) (take (nodesAt s (suc l)) indices) && checked s l (drop (nodesAt s (suc l)) indices))
+  unfolding checked
+  checked-suc l = refl
 
 module _ (s : Settings) (levels : List ℤ) where
   abbrev within : ℤ → Bool

@@ -9,7 +9,7 @@ use lib.Dec.{T, leb, le→leb}
 use lib.IntN.{ℤ, natAbs}
 use lib.ListN.{length}
 use Rattle.pyramid.specs.declared.Settings.{Settings}
-use Rattle.pyramid.specs.Sizes.{columnsAt, rowsAt}
+use Rattle.pyramid.specs.Sizes.{columnsAt, rowsAt, total}
 use Rattle.pyramid.specs.Pyramid.{index}
 use Rattle.pyramid.specs.Rebuilding.{valueOf}
 use Rattle.pyramid.specs.Buffers.{Bytes, pixels, allLevels, readLevels}
@@ -37,9 +37,9 @@ module _ (s : Settings) (picture : List ℕ) (levels work : List ℤ) (bytes : B
   unfolding coding
   call = accepted-coding s picture levels work ok
 
-  settings-ok : settingsRefusal s ≡ 0
+  pub coded-settings : settingsRefusal s ≡ 0
   unfolding coding codingRefusal
-  settings-ok = first-none _ _ ok .0
+  coded-settings = first-none _ _ ok .0
 
   left-is : left ≡ allLevels s (index s (pixels (s .columns) picture))
   unfolding coding
@@ -58,13 +58,16 @@ module _ (s : Settings) (picture : List ℕ) (levels work : List ℤ) (bytes : B
       all-stack s (λ v. leb (natAbs v) limit) (λ l i j. valueOf s l (readLevels s left l i j)) (s .depth)
       (λ l i j hl hi hj. rw (read-left l i j hl hi hj) (le→leb _ limit (ranges .values l hl i j hi hj)))
 
-  pub coded-length : length left ≡ length levels
-  coded-length = ap length left-is ∙ length-all s (index s (pixels (s .columns) picture)) ∙ sym (call .sized .levels-is)
+  pub coded-total : length left ≡ total s
+  coded-total = ap length left-is ∙ length-all s (index s (pixels (s .columns) picture))
+
+  coded-length : length left ≡ length levels
+  coded-length = coded-total ∙ sym (call .sized .levels-is)
 
   module _ (target : List ℕ) (targetWork : List ℤ) where
     pub rebuilding-coded : rebuilding s left target targetWork .answer ≡ buffersRefusal s (length target) (length levels) (length targetWork)
     unfolding rebuilding
-    rebuilding-coded = rebuilding-lengths s left target targetWork settings-ok coded-values ∙ ap (λ (n : ℕ). buffersRefusal s (length target) n (length targetWork)) coded-length
+    rebuilding-coded = rebuilding-lengths s left target targetWork coded-settings coded-values ∙ ap (λ (n : ℕ). buffersRefusal s (length target) n (length targetWork)) coded-length
 
     pub never-eleven : rebuilding s left target targetWork .answer ≡ 11 → ⊥
     unfolding buffersRefusal

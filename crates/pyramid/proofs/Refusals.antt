@@ -1,5 +1,5 @@
--- What an accepted call says of its arguments, and what is left in a buffer. Assumes nothing.
-use mathlib.Core.Path.{_≡_, refl, _∙_}
+-- Laws of chains of rules, what an accepted call says of its arguments, and what is left in a buffer. Assumes nothing.
+use mathlib.Core.Path.{_≡_, refl, sym, _∙_}
 use mathlib.Core.Bool.{Bool, true, false}
 use mathlib.Core.List.{List, [], _∷_, _++_}
 use Prim.Native.Nat.{ℕ, zero, suc, _*_}
@@ -10,11 +10,17 @@ use lib.ListN.{length}
 use Rattle.pyramid.specs.declared.Settings.{Settings}
 use Rattle.pyramid.specs.Settings.{sizeOk, kernelOk, binsOk}
 use Rattle.pyramid.specs.Sizes.{total}
-use Rattle.pyramid.specs.Refusals.{unless, first, shapeRefusal, settingsRefusal, buffersRefusal, valuesOk, codingRefusal, rebuildingRefusal}
+use Rattle.pyramid.specs.Refusals.{unless, first, shapeRefusal, settingsRefusal, buffersRefusal, valuesOk, levelsRefusal, codingRefusal, rebuildingRefusal}
 use Rattle.pyramid.specs.Calls.{leaves}
 use Rattle.pyramid.specs.Accepted.{Sized, Accepted}
 use Rattle.pyramid.specs.Lawful.{Shaped, Lawful}
 use Rattle.pyramid.proofs.Lawful.{shaped, lawful}
+
+-- ---- the first that is not 0
+
+pub first-nil : first [] ≡ 0
+unfolding first
+first-nil = refl
 
 pub first-none : (x : ℕ) (later : List ℕ) → first (x ∷ later) ≡ 0 → (x ≡ 0) × (first later ≡ 0)
 unfolding first
@@ -24,6 +30,16 @@ first-none (suc n) later e = absurd (omega arith)
 pub first-skip : (x : ℕ) (later : List ℕ) → x ≡ 0 → first (x ∷ later) ≡ first later
 unfolding first
 first-skip x later e = rw e
+
+-- rules that all hold
+pub first-pass : {x : ℕ} (later : List ℕ) → x ≡ 0 → first later ≡ 0 → first (x ∷ later) ≡ 0
+first-pass {x} later e f = first-skip x later e ∙ f
+
+-- a rule that holds can be left out
+pub first-over : (x : ℕ) (later : List ℕ) → first (x ∷ 0 ∷ later) ≡ first (x ∷ later)
+unfolding first
+first-over zero later = refl
+first-over (suc n) later = refl
 
 pub first-stop : (x : ℕ) (later : List ℕ) → (x ≡ 0 → ⊥) → first (x ∷ later) ≡ x
 unfolding first
@@ -48,10 +64,15 @@ unfolding first
 first-last zero = refl
 first-last (suc n) = refl
 
-only : (x : ℕ) → first (x ∷ 0 ∷ []) ≡ x
-unfolding first
-only zero = refl
-only (suc n) = refl
+-- ---- one rule
+
+pub unless-passes : {holds : Bool} (number : ℕ) → holds ≡ true → unless holds number ≡ 0
+unfolding unless
+unless-passes number e = rw e
+
+pub unless-fails : {holds : Bool} (number : ℕ) → holds ≡ false → unless holds number ≡ number
+unfolding unless
+unless-fails number e = rw e
 
 pub unless-none : (holds : Bool) (number : ℕ) → unless holds (suc number) ≡ 0 → T holds
 unfolding unless
@@ -62,6 +83,50 @@ pub unless-holds : (holds : Bool) (number : ℕ) → T holds → unless holds nu
 unfolding unless
 unless-holds true number t = refl
 unless-holds false number t = absurd t
+
+-- ---- what is answered: a number m other than 0 is the answer, 0 is passed over, and the last rule's is the answer
+
+pub answers-stop : {m x : ℕ} (later : List ℕ) → m ≡ x → (m ≡ 0 → ⊥) → m ≡ first (x ∷ later)
+answers-stop {m} later e refused = sym (first-stop m later refused) ∙ rw e
+
+pub answers-skip : {m x : ℕ} (later : List ℕ) → m ≡ x → m ≡ 0 → first later ≡ first (x ∷ later)
+answers-skip later e none = sym (first-skip _ later (sym e ∙ none))
+
+pub answers-last : {m x : ℕ} → m ≡ x → m ≡ first (x ∷ [])
+answers-last {x = x} e = e ∙ sym (first-last x)
+
+-- the number of a rule that holds, then that of the last
+pub answers-second : {m x n y : ℕ} → m ≡ x → m ≡ 0 → n ≡ y → n ≡ first (x ∷ y ∷ [])
+answers-second e none f = answers-last f ∙ answers-skip _ e none
+
+-- the same of a test: its number where it fails, and what follows where it passes
+pub answers-fails : {holds : Bool} {number : ℕ} (later : List ℕ) → holds ≡ false → suc number ≡ first (unless holds (suc number) ∷ later)
+answers-fails {number = number} later e = answers-stop later (sym (unless-fails (suc number) e)) (λ z. omega (arith, z))
+
+pub answers-passes : {holds : Bool} (number : ℕ) (later : List ℕ) → holds ≡ true → first later ≡ first (unless holds number ∷ later)
+answers-passes number later e = sym (first-skip _ later (unless-passes number e))
+
+-- ---- whatever holds of 0 and of each rule's number holds of the first that is not 0
+
+module _ (P : ℕ → Type 0) (none : P 0) where
+  pub unless-elim : (holds : Bool) (number : ℕ) → P number → P (unless holds number)
+  unfolding unless
+  unless-elim true number h = none
+  unless-elim false number h = h
+
+  pub first-elim : (x : ℕ) (later : List ℕ) → P x → P (first later) → P (first (x ∷ later))
+  unfolding first
+  first-elim zero later h l = l
+  first-elim (suc n) later h l = h
+
+  pub last-elim : (x : ℕ) → P x → P (first (x ∷ []))
+  last-elim x h = rw (first-last x) h
+
+  pub shape-elim : (s : Settings) → P 1 → P 2 → P (shapeRefusal s)
+  unfolding shapeRefusal
+  shape-elim s one two = first-elim _ _ (unless-elim (sizeOk s) 1 one) (last-elim _ (unless-elim (kernelOk (s .kernel)) 2 two))
+
+-- ---- the calls
 
 module _ (s : Settings) where
   pub accepted-shape : shapeRefusal s ≡ 0 → Shaped s
@@ -86,6 +151,11 @@ module _ (s : Settings) where
   pub settings-bins : shapeRefusal s ≡ 0 → settingsRefusal s ≡ unless (binsOk s) 3
   unfolding settingsRefusal
   settings-bins e = first-skip _ _ e ∙ first-last _
+
+  -- the levels' refusal is the settings', and then that of their length and values
+  pub levels-parts : (levels : List ℤ) → settingsRefusal s ≡ 0 → levelsRefusal s levels ≡ first (unless (eqb (length levels) (total s)) 6 ∷ unless (valuesOk s levels) 11 ∷ [])
+  unfolding levelsRefusal
+  levels-parts levels e = first-skip _ _ e
 
   accepted-buffers : (picture levels work : ℕ) → buffersRefusal s picture levels work ≡ 0 → Sized s picture levels work
   unfolding buffersRefusal
@@ -130,7 +200,9 @@ module _ (s : Settings) where
   pub rebuilding-lengths : (levels : List ℤ) (picture : List ℕ) (work : List ℤ) → settingsRefusal s ≡ 0 → T (valuesOk s levels)
       → rebuildingRefusal s levels picture work ≡ buffersRefusal s (length picture) (length levels) (length work)
   unfolding rebuildingRefusal
-  rebuilding-lengths levels picture work e t = rw (first-skip _ _ e, unless-holds (valuesOk s levels) 11 t) (only _)
+  rebuilding-lengths levels picture work e t = rw (first-skip _ _ e, unless-holds (valuesOk s levels) 11 t) (first-over _ _ ∙ first-last _)
+
+-- ---- what is left
 
 pub leaves-new : {A : Type 0} (answer : ℕ) (new old : A) → answer ≡ 0 → leaves answer new old ≡ new
 unfolding leaves

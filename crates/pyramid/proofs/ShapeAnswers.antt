@@ -1,5 +1,5 @@
--- What the calls on a shape answer where it is lawful: the converse of the tests, a level's size, T. Assumes nothing.
-use mathlib.Core.Path.{_≡_, refl}
+-- What the calls on a shape or on settings answer where these are lawful: the converse of the tests, a level's size, T. Assumes nothing.
+use mathlib.Core.Path.{_≡_, refl, sym, _∙_}
 use Prim.Native.Nat.{ℕ, _*_, _≤_}
 use borrow.Author.Tests.{le-leb, eq-eqb}
 use Rattle.pyramid.specs.declared.Settings.{Settings}
@@ -9,8 +9,9 @@ use Rattle.pyramid.specs.Settings.{sideOk, depthOk, divides, kernelOk, s
 use Rattle.pyramid.specs.Sizes.{columnsAt, rowsAt, nodesAt, total}
 use Rattle.pyramid.specs.Lawful.{Shaped}
 use Rattle.pyramid.specs.Calls.{leaves}
-use Rattle.pyramid.specs.Refusals.{unless, first, shapeRefusal}
-use Rattle.pyramid.specs.Answers.{levelSizeAnswer, shapeAnswer}
+use Rattle.pyramid.specs.Refusals.{unless, first, shapeRefusal, settingsRefusal}
+use Rattle.pyramid.specs.Answers.{levelSizeAnswer, nodesAnswer, shapeAnswer}
+use Rattle.pyramid.proofs.Refusals.{leaves-new}
 use Rattle.pyramid.proofs.Sizes.{nodes-most}
 
 pub shape-accepted : (s : Settings) → Shaped s → shapeRefusal s ≡ 0
@@ -44,3 +45,11 @@ shape-answer s answer e = rw e
 pub shape-total : (s : Settings) (answer : Nodes) → answer ≡ shapeAnswer s → Shaped s → answer .nodes ≡ total s
 unfolding shapeAnswer leaves
 shape-total s answer e shape = rw (e, shape-accepted s shape)
+
+pub nodes-answer : (s : Settings) (answer : Nodes) → answer ≡ nodesAnswer s → answer .refusal ≡ settingsRefusal s
+unfolding nodesAnswer
+nodes-answer s answer e = rw e
+
+pub nodes-total : (s : Settings) (answer : Nodes) → answer ≡ nodesAnswer s → answer .refusal ≡ 0 → answer .nodes ≡ total s
+unfolding nodesAnswer
+nodes-total s answer e none = rw e (leaves-new _ _ _ (sym (nodes-answer s answer e) ∙ none))

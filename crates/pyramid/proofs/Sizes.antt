@@ -68,10 +68,26 @@ nodes-most s shape l h =
 -- ---- the nodes of the levels together
 
 module _ (s : Settings) where
-  grows : (n m : ℕ) → nodesTo s n ≤ nodesTo s (n + m)
+  pub nodesTo-zero : nodesTo s 0 ≡ nodesAt s 0
   unfolding nodesTo
+  nodesTo-zero = refl
+
+  pub nodesTo-suc : (l : ℕ) → nodesTo s (suc l) ≡ nodesAt s (suc l) + nodesTo s l
+  unfolding nodesTo
+  nodesTo-suc l = refl
+
+  -- a level's nodes, and those of the levels below it
+  pub nodes-down : (l : ℕ) → (l ≡ 0 → ⊥) → nodesTo s l ≡ nodesAt s l + nodesTo s (l - 1)
+  nodes-down zero some = absurd (some refl)
+  nodes-down (suc l) some = let e : suc l - 1 ≡ l = omega arith in rw e (nodesTo-suc l)
+
+  pub total-is : total s ≡ nodesTo s (s .depth)
+  unfolding total
+  total-is = refl
+
+  grows : (n m : ℕ) → nodesTo s n ≤ nodesTo s (n + m)
   grows n zero = rw add-zero (le-refl (nodesTo s n))
-  grows n (suc m) = rw add-suc (omega (arith, grows n m))
+  grows n (suc m) = rw add-suc (omega (arith, nodesTo-suc (n + m), grows n m))
 
   pub nodesTo-mono : (n m : ℕ) → n ≤ m → nodesTo s n ≤ nodesTo s m
   nodesTo-mono n m h = let e : n + (m - n) ≡ m = omega arith in rw e at (grows n (m - n))
@@ -85,9 +101,8 @@ module _ (s t : Settings) (wide : s .columns ≤ t .columns) (tall : s .rows ≤
       mul-le-mul along across
 
   pub nodes-of-size : (n : ℕ) → nodesTo s n ≤ nodesTo t n
-  unfolding nodesTo
-  nodes-of-size zero = level-nodes 0
-  nodes-of-size (suc n) = omega (arith, level-nodes (suc n), nodes-of-size n)
+  nodes-of-size zero = omega (arith, nodesTo-zero s, nodesTo-zero t, level-nodes 0)
+  nodes-of-size (suc n) = omega (arith, nodesTo-suc s n, nodesTo-suc t n, level-nodes (suc n), nodes-of-size n)
 
 -- the most columns, rows and levels
 largest : Settings
@@ -100,5 +115,4 @@ nodesTo-most s shape n h =
     omega (arith, nodesTo-mono s n 6 h, nodes-of-size s largest (shape .across .most) (shape .along .most) 6)
 
 pub total-most : (s : Settings) → Shaped s → total s ≤ 22359
-unfolding total
-total-most s shape = nodesTo-most s shape (s .depth) (shape .deep)
+total-most s shape = rw (total-is s) (nodesTo-most s shape (s .depth) (shape .deep))

@@ -1,8 +1,9 @@
 -- `bale::checking::bins_section_refusal` meets its contract: the section's refusal, then that of the bins. Assumes nothing.
 use mathlib.Core.Path.{_∙_}
 use borrow.Author.Needs.{needs}
+use Rattle.pyramid.proofs.Refusals.{answers-stop, answers-second}
 use Rattle.bale.specs.Reader.{binsSectionRefusal}
-use Rattle.bale.proofs.Checks.{stop, second, depth-in, bins-in}
+use Rattle.bale.proofs.Checks.{depth-in, bins-in}
 use Rattle.bale.proofs.checking.bins_section_refusal.Statement.{statement}
 use Rattle.bale.proofs.checking.bins_section_refusal.Tie as tie
 
@@ -16,7 +17,7 @@ returns : tie.Need-returns
 unfolding binsSectionRefusal
 returns c =
     let section = c .before in
-    stop _ (section .section-refusal .ensures ∙ rw (depth-in _ _ (section .before .before .before .pre .0))) (c .if1 .taken)
+    answers-stop _ (section .section-refusal .ensures ∙ rw (depth-in _ _ (section .before .before .before .pre .0))) (c .if1 .taken)
 
 settings-refusal-requires : tie.Need-settings-refusal-requires
 settings-refusal-requires c κs = search needs
@@ -27,7 +28,7 @@ returns-2 c =
     let whole = c .before in
     let section = whole .before in
     let given = section .before .before .before in
-    second (section .section-refusal .ensures ∙ rw (depth-in _ _ (given .pre .0))) (whole .if1 .left)
+    answers-second (section .section-refusal .ensures ∙ rw (depth-in _ _ (given .pre .0))) (whole .if1 .left)
     (bins-in _ _ (given .pre .0) (given .pre .1) (c .settings-refusal .ensures))
 
 pub bins-section-refusal-spec : {M : Type 1} → statement M

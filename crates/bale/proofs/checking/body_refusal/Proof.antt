@@ -1,8 +1,9 @@
 -- `bale::checking::body_refusal` meets its contract: section by section. Assumes nothing.
 use mathlib.Core.Path.{_∙_}
 use borrow.Author.Needs.{needs}
+use Rattle.pyramid.proofs.Refusals.{answers-stop, answers-skip, answers-second}
 use Rattle.bale.specs.Reader.{bodyRefusal}
-use Rattle.bale.proofs.Checks.{stop, skip, second, depth-in, levels-in}
+use Rattle.bale.proofs.Checks.{depth-in, levels-in}
 use Rattle.bale.proofs.checking.body_refusal.Statement.{statement}
 use Rattle.bale.proofs.checking.body_refusal.Tie as tie
 
@@ -11,7 +12,7 @@ bins-section-refusal-requires c κs = search needs
 
 returns : tie.Need-returns
 unfolding bodyRefusal
-returns c = stop _ (c .before .bins-section-refusal .ensures) (c .if1 .taken)
+returns c = answers-stop _ (c .before .bins-section-refusal .ensures) (c .if1 .taken)
 
 readings-section-refusal-requires : tie.Need-readings-section-refusal-requires
 readings-section-refusal-requires c κs = search needs
@@ -22,8 +23,8 @@ returns-2 c =
     let readings = c .before in
     let binned = readings .before in
     let bins = binned .before in
-    stop _ (readings .readings-section-refusal .ensures ∙ rw (depth-in _ _ (bins .before .before .pre .0))) (c .if2 .taken)
-    ∙ skip _ (bins .bins-section-refusal .ensures) (binned .if1 .left)
+    answers-stop _ (readings .readings-section-refusal .ensures ∙ rw (depth-in _ _ (bins .before .before .pre .0))) (c .if2 .taken)
+    ∙ answers-skip _ (bins .bins-section-refusal .ensures) (binned .if1 .left)
 
 cast-level-sections-refusal : tie.Need-cast-level-sections-refusal
 cast-level-sections-refusal c = search needs
@@ -45,8 +46,8 @@ returns-3 c =
     let binned = readings .before in
     let bins = binned .before in
     let e = bins .before .before .pre .0 in
-    second (readings .readings-section-refusal .ensures ∙ rw (depth-in _ _ e)) (noted .if2 .left) (levels-in _ _ e (c .level-sections-refusal .ensures))
-    ∙ skip _ (bins .bins-section-refusal .ensures) (binned .if1 .left)
+    answers-second (readings .readings-section-refusal .ensures ∙ rw (depth-in _ _ e)) (noted .if2 .left) (levels-in _ _ e (c .level-sections-refusal .ensures))
+    ∙ answers-skip _ (bins .bins-section-refusal .ensures) (binned .if1 .left)
 
 pub body-refusal-spec : {M : Type 1} → statement M
 body-refusal-spec =

@@ -1,8 +1,9 @@
 -- `bale::checking::read_refusal` meets its contract: the shape's section, the places, and the sections after it. Assumes nothing.
 use mathlib.Core.Path.{sym, _∙_}
 use borrow.Author.Needs.{needs}
+use Rattle.pyramid.proofs.Refusals.{answers-stop}
 use Rattle.bale.specs.Calls.{readRefusal}
-use Rattle.bale.proofs.Checks.{stop, shaped-in, places-wrong, places-right}
+use Rattle.bale.proofs.Checks.{shaped-in, places-wrong, places-right}
 use Rattle.bale.proofs.checking.read_refusal.Statement.{statement}
 use Rattle.bale.proofs.checking.read_refusal.Tie as tie
 
@@ -11,7 +12,7 @@ shape-section-refusal-requires c κs = search needs
 
 returns : tie.Need-returns
 unfolding readRefusal
-returns c = stop _ (c .before .shape-section-refusal .ensures) (c .if1 .taken)
+returns c = answers-stop _ (c .before .shape-section-refusal .ensures) (c .if1 .taken)
 
 shape-nodes-requires : tie.Need-shape-nodes-requires
 shape-nodes-requires c κs = search needs

@@ -1,8 +1,8 @@
 -- `bale::checking::readings_section_refusal` meets its contract: the section's refusal, then that of each reading. Assumes nothing.
 use mathlib.Core.Path.{_∙_}
 use borrow.Author.Needs.{needs}
+use Rattle.pyramid.proofs.Refusals.{answers-stop, answers-skip, answers-second}
 use Rattle.bale.specs.Reader.{readingsSectionRefusal}
-use Rattle.bale.proofs.Checks.{stop, skip, second}
 use Rattle.bale.proofs.checking.readings_section_refusal.Statement.{statement}
 use Rattle.bale.proofs.checking.readings_section_refusal.Tie as tie
 
@@ -17,7 +17,7 @@ section-refusal-requires c κs = search needs
 
 returns : tie.Need-returns
 unfolding readingsSectionRefusal
-returns c = stop _ (c .before .section-refusal .ensures) (c .if1 .taken)
+returns c = answers-stop _ (c .before .section-refusal .ensures) (c .if1 .taken)
 
 add-probe-at : tie.Need-add-probe-at
 add-probe-at c = search needs
@@ -30,7 +30,7 @@ unfolding readingsSectionRefusal
 returns-2 c =
     let drier = c .before .before in
     let whole = drier .before in
-    stop _ (rw (drier .probe-at .ensures)) (c .if2 .taken) ∙ skip _ (whole .before .section-refusal .ensures) (whole .if1 .left)
+    answers-stop _ (rw (drier .probe-at .ensures)) (c .if2 .taken) ∙ answers-skip _ (whole .before .section-refusal .ensures) (whole .if1 .left)
 
 add-probe-at-2 : tie.Need-add-probe-at-2
 add-probe-at-2 c = search needs
@@ -43,8 +43,8 @@ unfolding readingsSectionRefusal
 returns-3 c =
     let drier = c .before .before .before in
     let whole = drier .before in
-    second (rw (drier .probe-at .ensures)) (c .before .if2 .left) (rw (c .probe-at2 .ensures))
-    ∙ skip _ (whole .before .section-refusal .ensures) (whole .if1 .left)
+    answers-second (rw (drier .probe-at .ensures)) (c .before .if2 .left) (rw (c .probe-at2 .ensures))
+    ∙ answers-skip _ (whole .before .section-refusal .ensures) (whole .if1 .left)
 
 pub readings-section-refusal-spec : {M : Type 1} → statement M
 readings-section-refusal-spec =

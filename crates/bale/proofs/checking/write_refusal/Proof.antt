@@ -46,7 +46,7 @@ returns-5 c =
     let noted = levels .before in
     let lawful = noted .before .before in
     values-refused _ _ _ _ _ (lawful .before .before .size-of .ensures) (lawful .if1 .left) (noted .before .note-ok .ensures) (not-false _ (noted .if2 .left))
-    (levels .levels-refusal .ensures) (other .if3 .left) (c .if4 .left)
+    (levels .levels-refusal .ensures) (c .if4 .left)
 
 pub write-refusal-spec : {M : Type 1} → statement M
 write-refusal-spec =

@@ -5,8 +5,9 @@ use borrow.Author.Needs.{needs}
 use borrow.Fn.Kinds.{In}
 use borrow.Fn.PlainCycle.{Measures, is, falls, and}
 use denote.Ref.{now}
+use Rattle.pyramid.proofs.Sizes.{nodes-down}
 use Rattle.pyramid.proofs.LevelParts.{least-nodes}
-use Rattle.bale.proofs.Pieces.{nodes-down, read-last, read-more}
+use Rattle.bale.proofs.Pieces.{read-last, read-more}
 use Rattle.bale.proofs.filling.fill_levels.Reads as reads
 use Rattle.bale.proofs.filling.fill_levels.Kinds as kinds
 use Rattle.bale.proofs.filling.+fill_levels.Lts-fill_levels as lts

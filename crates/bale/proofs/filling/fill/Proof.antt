@@ -2,7 +2,8 @@
 use native.Mathlib.Omega.{arith}
 use borrow.Author.Needs.{needs}
 use denote.Ref.{now}
-use Rattle.pyramid.specs.Sizes.{total}
+use Rattle.pyramid.proofs.Sizes.{total-is}
+use Rattle.bale.specs.Reader.{settingsIn}
 use Rattle.bale.proofs.AcceptedFiles.{accepted-file, filled}
 use Rattle.bale.proofs.filling.fill.Statement.{statement}
 use Rattle.bale.proofs.filling.fill.Tie as tie
@@ -17,11 +18,10 @@ add-fill-levels : tie.Need-add-fill-levels
 add-fill-levels c = search needs
 
 fill-levels-requires : tie.Need-fill-levels-requires
-unfolding total
 fill-levels-requires c κs =
     let d = c .before .before .before in
     let w = accepted-file (now (d .args .file)) _ (d .pre .1) in
-    rw (d .pre .0) (w .shaped, omega (arith, w .places-are, w .whole))
+    rw (d .pre .0) (w .shaped, omega (arith, w .places-are, w .whole, total-is (settingsIn (now (d .args .file)))))
 
 same-length : tie.Need-same-length
 same-length c = search needs

@@ -1,14 +1,13 @@
 -- `bale::finding::accepted` meets its contract: field by field. Assumes nothing.
-use mathlib.Core.Path.{_≡_, ap}
+use mathlib.Core.Path.{_≡_, sym}
 use mathlib.Core.List.{List}
 use Prim.Native.Nat.{ℕ}
 use borrow.Author.Needs.{needs}
 use Rattle.pyramid.specs.declared.Settings.{Settings}
-use Rattle.pyramid.specs.Calls.{leaves}
 use Rattle.bale.specs.declared.Note.{Note}
-use Rattle.bale.specs.Words.{u16At}
 use Rattle.bale.specs.Reader.{settingsIn, noteIn}
 use Rattle.bale.specs.Calls.{baleOf}
+use Rattle.bale.proofs.Answers.{bale-is}
 use Rattle.bale.proofs.finding.accepted.Statement.{statement}
 use Rattle.bale.proofs.finding.accepted.Tie as tie
 
@@ -17,8 +16,8 @@ note-in-requires c κs = search needs
 
 found : (bytes : List ℕ) (s : Settings) (note : Note) → s ≡ settingsIn bytes → note ≡ noteIn bytes (s .depth)
     → record { refusal = 0; settings = s; note = note } ≡ baleOf bytes 0
-unfolding baleOf leaves settingsIn
-found bytes s note p q = let e : s .depth ≡ u16At bytes 6 = ap (λ (x : Settings). x .depth) p in rw (q, e, p)
+unfolding settingsIn
+found bytes s note p q = rw (q, p) (sym (bale-is bytes))
 
 returns : tie.Need-returns
 returns c = found _ _ _ (c .before .before .pre) (c .note-in .ensures)

@@ -2,7 +2,7 @@
 use native.Mathlib.Omega.{arith}
 use borrow.Author.Needs.{needs}
 use denote.Ref.{now}
-use Rattle.pyramid.specs.Sizes.{total}
+use Rattle.pyramid.proofs.Sizes.{total-is}
 use Rattle.bale.specs.Files.{fileSize}
 use Rattle.bale.proofs.AcceptedFiles.{accepted-writing}
 use Rattle.bale.proofs.Pieces.{file-next}
@@ -41,10 +41,11 @@ add-put-levels : tie.Need-add-put-levels
 add-put-levels c = search needs
 
 put-levels-requires : tie.Need-put-levels-requires
-unfolding fileSize total
+unfolding fileSize
 put-levels-requires c κs =
-    let w = accepted-writing _ _ _ _ (c .before .before .before .before .before .before .before .before .before .before .before .before .before .before .before .pre) in
-    (w .law .shaped, omega (arith, w .fits, w .long))
+    let d = c .before .before .before .before .before .before .before .before .before .before .before .before .before .before .before in
+    let w = accepted-writing _ _ _ _ (d .pre) in
+    (w .law .shaped, omega (arith, w .fits, w .long, total-is (d .args .s)))
 
 same-length : tie.Need-same-length
 same-length c = search needs
