@@ -1,7 +1,7 @@
 -- The numbers that `copying` forms, as the machine forms them: clamped values, indices and the values of indices. Assumes nothing.
 use mathlib.Core.Path.{_≡_, refl, ap, _∙_}
 use mathlib.Core.Bool.{true, false, true≢false}
-use Prim.Native.Nat.{ℕ, _≤_, _<_}
+use Prim.Native.Nat.{ℕ, _<_}
 use native.Mathlib.Omega.{arith}
 use borrow.Author.Tests.{ltb-true, ltb-false, le-leb, lt-leb}
 use lib.Dec.{T}
@@ -16,7 +16,7 @@ use Rattle.pyramid.specs.declared.Settings.{Settings}
 use Rattle.pyramid.specs.Refusals.{limit, indexOk}
 use Rattle.pyramid.specs.Rebuilding.{clamp}
 use Rattle.pyramid.specs.Rows.{Within}
-use Rattle.pyramid.proofs.ColumnSums.{within-fits}
+use Rattle.pyramid.proofs.TapSums.{within-fits}
 
 -- ---- what a value is clamped to
 
