@@ -48,7 +48,11 @@ below-at (suc n) test t k h = cases (below-at n test (both (allBelow n test) (te
     cases before (yes l) = before l
     cases before (no l) = let e : n ≡ k = omega arith in subst (λ (m : ℕ). T (test m)) e (both (allBelow n test) (test n) t .1)
 
--- one number more, and a number at which the test fails
+-- no number, one more, and a number at which the test fails
+pub below-none : (test : ℕ → Bool) → allBelow 0 test ≡ true
+unfolding allBelow
+below-none test = refl
+
 pub below-next : (n : ℕ) (test : ℕ → Bool) → allBelow n test ≡ true → test n ≡ true → allBelow (n + 1) test ≡ true
 unfolding allBelow
 below-next n test e f = rw (add-one n, e, f)
