@@ -18,6 +18,10 @@ module _ {ℓ} {A : Type ℓ} where
   pub length-part : (f t : ℕ) (l : List A) → f ≤ t → t ≤ length l → length (part f t l) ≡ t - f
   length-part f t l h k = length-take-le (t - f) (drop f l) (simp length-drop (omega arith))
 
+  -- n elements from f on
+  pub part-long : (f n : ℕ) (l : List A) → f + n ≤ length l → length (part f (f + n) l) ≡ n
+  part-long f n l h = length-part f (f + n) l (omega arith) h ∙ omega arith
+
   -- ---- a splice, and what stands before, at and after it
 
   pub splice-nil : (at : ℕ) (l : List A) → splice at [] l ≡ l

@@ -13,7 +13,7 @@ use Rattle.mathematics.specs.Tests.{all}
 use Rattle.mathematics.specs.Tables.{tabulate}
 use Rattle.mathematics.specs.Splices.{part}
 use Rattle.mathematics.proofs.Tables.{map-tabulate}
-use Rattle.mathematics.proofs.Splices.{length-part, getD-part}
+use Rattle.mathematics.proofs.Splices.{part-long, getD-part}
 pub use Rattle.mathematics.proofs.Tests.{all-map, all-joined}
 use Rattle.pyramid.specs.declared.Settings.{Settings}
 use Rattle.pyramid.specs.Sizes.{Level, columnsAt, rowsAt, nodesAt, nodesTo, total}
@@ -56,7 +56,7 @@ module _ (s : Settings) where
 
   module _ (buffer : List ℤ) (l : ℕ) (h : l ≤ s .depth) (long : total s ≤ length buffer) where
     pub length-level : length (part (start s l) (start s l + nodesAt s l) buffer) ≡ nodesAt s l
-    length-level = length-part (start s l) (start s l + nodesAt s l) buffer (omega arith) (omega (arith, level-inside l h)) ∙ omega arith
+    length-level = part-long (start s l) (nodesAt s l) buffer (omega (arith, level-inside l h))
 
     abbrev Same : ℕ → Type 0
     Same p = getD (part (start s l) (start s l + nodesAt s l) buffer) p (pos 0) ≡ getD (levelRaster s (readLevels s buffer) l) p (pos 0)
