@@ -36,6 +36,7 @@ pub *ℤ-cancel : (k : ℕ) (x y : ℤ) → (x *ℤ pos k) <ℤ (y *ℤ pos k) �
 *ℤ-cancel k = all₂ _ (λ p n q m. simp ints (λ h. lt-of-mul-lt-mul-right k {m = p + m} {n = q + n} (omega arith)))
 
 -- ---- the distance from zero
+
 -- with the bounds as numbers: what a chain of sums wants
 pub abs-sum : (k l : ℕ) (x y : ℤ) → natAbs x ≤ k → natAbs y ≤ l → natAbs (x +ℤ y) ≤ k + l
 abs-sum k l = all₂ _ (λ p n q m. simp ints (omega arith))

@@ -1,6 +1,5 @@
--- Laws of tests: what a passed test says, a rule that one computed test proves at each number below a bound, and tests of all elements of
--- joined lists, of what is left of a list, and of images.
--- Assumes nothing.
+-- Laws of tests: what a passed test says, a rule that one computed test proves at each number below a bound, and tests of joined lists, of
+-- what is left of a list and of images. Assumes nothing.
 use mathlib.Core.Path.{_≡_, refl, sym, subst}
 use mathlib.Core.Bool.{Bool, true, false, not, cond, _&&_, and-assoc}
 use mathlib.Core.List.{List, [], _∷_, _++_, map}
