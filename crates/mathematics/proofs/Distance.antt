@@ -1,5 +1,5 @@
 -- Whole numbers at most a distance apart, and how sums, differences and products carry the distance on. Assumes nothing.
-use mathlib.Core.Path.{_≡_}
+use mathlib.Core.Path.{_≡_, subst}
 use Prim.Native.Nat.{ℕ, _+_, _*_, _≤_}
 use native.Mathlib.Nat.{le-trans, le-refl}
 use native.Mathlib.Omega.{arith}
@@ -54,6 +54,9 @@ near-sym {e} {x} {y} n = record { apart = sym-abs e x y (n .apart) }
 
 pub near-same : {x y : ℤ} → Near 0 x y → x ≡ y
 near-same {x} {y} n = same-abs x y (n .apart)
+
+pub same-near : {x y : ℤ} → x ≡ y → Near 0 x y
+same-near {x} e = subst (Near 0 x) e (near-refl x)
 
 pub near-more : {e f : ℕ} {x y : ℤ} → e ≤ f → Near e x y → Near f x y
 near-more h n = record { apart = le-trans (n .apart) h }

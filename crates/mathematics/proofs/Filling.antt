@@ -1,14 +1,15 @@
--- A loop that writes a table into a buffer, one element a turn. Assumes nothing.
+-- A loop that writes a table into a buffer, one element a turn, and what is then read there. Assumes nothing.
 use mathlib.Core.Path.{_≡_, refl, sym, ap, _∙_}
 use mathlib.Core.List.{List}
-use Prim.Native.Nat.{ℕ, _+_, _-_, _≤_, _<_}
+use Prim.Native.Nat.{ℕ, _+_, _≤_, _<_}
+use native.Mathlib.Nat.{zero-add}
 use native.Mathlib.Numerals.{add-one}
 use native.Mathlib.Omega.{arith}
-use lib.ListN.{length, set, length-set}
+use lib.ListN.{length, getD, set, length-set}
 use Rattle.mathematics.specs.Splices.{splice}
 use Rattle.mathematics.specs.Tables.{tabulate}
-use Rattle.mathematics.proofs.Tables.{length-tabulate, tabulate-same, tabulate-add}
-use Rattle.mathematics.proofs.Splices.{splice-nil, splice-set, splice-append, splice-over}
+use Rattle.mathematics.proofs.Tables.{length-tabulate, getD-tabulate, tabulate-same, tabulate-add}
+use Rattle.mathematics.proofs.Splices.{getD-splice, splice-nil, splice-set, splice-append, splice-over}
 
 module _ {ℓ} {A : Type ℓ} where
   -- ---- a loop that writes f 0, f 1, .., f (n - 1) from `at` on: l became w, with i of them written
@@ -62,3 +63,8 @@ module _ {ℓ} {A : Type ℓ} where
               q .is ∙ rw (r .is, tabulate-same j g (λ k. f (i + k)) same, tabulate-add i j f)
               (rw (length-tabulate i f) at (splice-append at (tabulate i f) l (rw (length-tabulate i f) (omega arith)) (tabulate j (λ k. f (i + k)))));
         }
+
+  -- an element of a table that was written at the front
+  pub getD-written : (n : ℕ) (f : ℕ → A) (l : List A) (d : A) (i : ℕ) → i < n → getD (splice 0 (tabulate n f) l) i d ≡ f i
+  getD-written n f l d i h =
+      rw zero-add at (getD-splice 0 (tabulate n f) l d i (omega arith) (rw (length-tabulate n f) h)) ∙ getD-tabulate n f d i h

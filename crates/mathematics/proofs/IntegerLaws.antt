@@ -9,16 +9,13 @@ use lib.IntN.{ℤ, pos, negsuc, negℤ, natAbs, _+ℤ_, _-ℤ_, _*ℤ_}
 use lib.Signed.{_≤ℤ_, _<ℤ_, ltZ, leZ}
 use mir.Syntax.{Width}
 use mir.Val.{SFits, hbits}
-use Rattle.mathematics.proofs.Integers.{ints, all₁, all₂, all₃, all₄, abs-⊖, _⊖_}
+use Rattle.mathematics.proofs.Integers.{ints, all₁, all₂, all₃, abs-⊖}
 
 pub *ℤ-assoc : (x y z : ℤ) → (x *ℤ y) *ℤ z ≡ x *ℤ (y *ℤ z)
 *ℤ-assoc = all₃ _ (λ p n q m r s. simp ints (omega arith))
 
 pub *ℤ-+ℤ : (x y z : ℤ) → x *ℤ (y +ℤ z) ≡ x *ℤ y +ℤ x *ℤ z
 *ℤ-+ℤ = all₃ _ (λ p n q m r s. simp ints (omega arith))
-
-pub +ℤ-*ℤ : (x y z : ℤ) → (x +ℤ y) *ℤ z ≡ x *ℤ z +ℤ y *ℤ z
-+ℤ-*ℤ = all₃ _ (λ p n q m r s. simp ints (omega arith))
 
 pub *ℤ--ℤ : (x y z : ℤ) → x *ℤ (y -ℤ z) ≡ x *ℤ y -ℤ x *ℤ z
 *ℤ--ℤ = all₃ _ (λ p n q m r s. simp ints (omega arith))
@@ -29,8 +26,8 @@ pub ≤ℤ-trans : {x y z : ℤ} → x ≤ℤ y → y ≤ℤ z → x ≤ℤ z
 pub ≤ℤ-antisym : (x y : ℤ) → x ≤ℤ y → y ≤ℤ x → x ≡ y
 ≤ℤ-antisym = all₂ _ (λ p n q m. simp ints (omega arith))
 
-pub +ℤ-mono : (w x y z : ℤ) → w ≤ℤ x → y ≤ℤ z → (w +ℤ y) ≤ℤ (x +ℤ z)
-+ℤ-mono = all₄ _ (λ p n q m r s t u. simp ints (omega arith))
+pub <ℤ-≤ℤ : {x y : ℤ} → x <ℤ y → x ≤ℤ y
+<ℤ-≤ℤ {x} {y} = all₂ (λ x y. x <ℤ y → x ≤ℤ y) (λ p n q m. simp ints (omega arith)) x y
 
 pub *ℤ-mono : (k : ℕ) (x y : ℤ) → x ≤ℤ y → (x *ℤ pos k) ≤ℤ (y *ℤ pos k)
 *ℤ-mono k = all₂ _ (λ p n q m. simp ints (λ h. omega (arith, mul-le-mul-right k h)))
@@ -39,11 +36,6 @@ pub *ℤ-cancel : (k : ℕ) (x y : ℤ) → (x *ℤ pos k) <ℤ (y *ℤ pos k) �
 *ℤ-cancel k = all₂ _ (λ p n q m. simp ints (λ h. lt-of-mul-lt-mul-right k {m = p + m} {n = q + n} (omega arith)))
 
 -- ---- the distance from zero
-pub abs-+ℤ : (x y : ℤ) → natAbs (x +ℤ y) ≤ natAbs x + natAbs y
-abs-+ℤ = all₂ _ (λ p n q m. simp (ints, abs-⊖) (omega arith))
-
-pub abs--ℤ : (x y : ℤ) → natAbs (x -ℤ y) ≤ natAbs x + natAbs y
-abs--ℤ = all₂ _ (λ p n q m. simp (ints, abs-⊖) (omega arith))
 
 -- with the bounds as numbers: what a chain of sums wants
 pub abs-sum : (k l : ℕ) (x y : ℤ) → natAbs x ≤ k → natAbs y ≤ l → natAbs (x +ℤ y) ≤ k + l
@@ -64,6 +56,16 @@ abs-*ℤ (negsuc a) (negsuc b) = refl
 
 pub abs-product : (k l : ℕ) (x y : ℤ) → natAbs x ≤ k → natAbs y ≤ l → natAbs (x *ℤ y) ≤ k * l
 abs-product k l x y h i = omega (arith, abs-*ℤ x y, mul-le-mul-right (natAbs y) h, mul-le-mul-left k i)
+
+-- between two numbers within k of zero, and below and above all of them
+pub abs-between : (k : ℕ) (x y z : ℤ) → x ≤ℤ y → y ≤ℤ z → natAbs x ≤ k → natAbs z ≤ k → natAbs y ≤ k
+abs-between k = all₃ _ (λ p n q m r s. simp ints (omega arith))
+
+pub abs-below : (k : ℕ) (z : ℤ) → z <ℤ negsuc k → suc k < natAbs z
+abs-below k = all₁ _ (λ p n. simp (ints, abs-⊖) (omega arith))
+
+pub abs-above : (k : ℕ) (z : ℤ) → pos k <ℤ z → k < natAbs z
+abs-above k = all₁ _ (λ p n. simp (ints, abs-⊖) (omega arith))
 
 -- a bound below half the width's power is a range
 pub fits-abs : (w : Width) (z : ℤ) (k : ℕ) → natAbs z ≤ k → k < 2 ^ hbits w → SFits w z

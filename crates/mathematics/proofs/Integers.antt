@@ -10,6 +10,7 @@ use Prim.Native.Nat.{ℕ, zero, suc, _+_, _*_, _-_, _<_, _≤_, _^_}
 use native.Mathlib.Decide.{decLe, decLt}
 use native.Mathlib.Omega.{arith}
 use lib.Dec.{T, ltb, ltb→lt, nltb→le, lt→ltb, le→leb, leb→le, not-T, T-not}
+use lib.Ieee.Bits.{is-true, is-false}
 use lib.IntN.{ℤ, pos, negsuc, negℤ, natAbs, _+ℤ_, _*ℤ_, subℕ, pos-ne-negsuc}
 use lib.Signed.{_≤ℤ_, _<ℤ_, leZ, ltZ, mag}
 use mir.Syntax.{Width}
@@ -165,16 +166,8 @@ pub ⊖-fits : (w : Width) (p n : ℕ) → SFits w (p ⊖ n) ↔ ((p < n + 2 ^ h
 ⊖-fits w p n = ((λ h. mag-down (2 ^ hbits w) (form p n) (h .sfits)), (λ h. record { sfits = mag-up (2 ^ hbits w) (form p n) h }))
 
 -- ---- tests, as a branch leaves them
-is-true : (b : Bool) → T b → b ≡ true
-is-true true t = refl
-is-true false t = absurd t
-
 true-is : (b : Bool) → b ≡ true → T b
 true-is b e = subst T (sym e) tt
-
-is-false : (b : Bool) → T (not b) → b ≡ false
-is-false true t = absurd t
-is-false false t = refl
 
 false-is : (b : Bool) → b ≡ false → T (not b)
 false-is b e = subst (λ (b : Bool). T (not b)) (sym e) tt

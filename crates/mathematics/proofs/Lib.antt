@@ -7,3 +7,4 @@ pub mod Tables
 pub mod Held
 pub mod Splices
 pub mod Filling
+pub mod Each

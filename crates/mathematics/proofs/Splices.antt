@@ -18,6 +18,10 @@ module _ {ℓ} {A : Type ℓ} where
   pub length-part : (f t : ℕ) (l : List A) → f ≤ t → t ≤ length l → length (part f t l) ≡ t - f
   length-part f t l h k = length-take-le (t - f) (drop f l) (simp length-drop (omega arith))
 
+  -- n elements from f on
+  pub part-long : (f n : ℕ) (l : List A) → f + n ≤ length l → length (part f (f + n) l) ≡ n
+  part-long f n l h = length-part f (f + n) l (omega arith) h ∙ omega arith
+
   -- ---- a splice, and what stands before, at and after it
 
   pub splice-nil : (at : ℕ) (l : List A) → splice at [] l ≡ l
@@ -53,12 +57,6 @@ module _ {ℓ} {A : Type ℓ} where
         sym (drop-drop k (at + length xs) (splice at xs l))
         ∙ ap (drop k) (rw (← append-assoc) (drop-at (take at l ++ xs) (drop (at + length xs) l) (at + length xs) front-length))
         ∙ drop-drop k (at + length xs) l
-
-    -- an element after the piece
-    pub getD-after : (d : A) (i : ℕ) → at + length xs ≤ i → getD (splice at xs l) i d ≡ getD l i d
-    getD-after d i h =
-        let e : at + length xs + (i - (at + length xs)) ≡ i = omega arith in
-        sym (rw add-zero at (getD-drop i (splice at xs l) 0 d)) ∙ ap (λ (m : List A). getD m 0 d) (rw e at (drop-splice (i - (at + length xs)))) ∙ rw add-zero at (getD-drop i l 0 d)
 
     -- a further piece right after the first
     pub splice-append : (ys : List A) → splice (at + length xs) ys (splice at xs l) ≡ splice at (xs ++ ys) l

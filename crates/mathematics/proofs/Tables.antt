@@ -1,13 +1,14 @@
--- Laws of tables: the length, an element, a value put in, the table of a list's images, and what a test says of all. Assumes nothing.
+-- Laws of tables: the length, an element, a value put in, one value everywhere, images, and what a test says of all. Assumes nothing.
 use mathlib.Core.Path.{_≡_, refl, sym, _∙_, subst}
 use mathlib.Core.Bool.{Bool, true}
-use mathlib.Core.List.{List, [], _∷_, _++_, map, append-assoc, append-nil}
+use mathlib.Core.List.{List, [], _∷_, _++_, map, map-append, append-assoc, append-nil}
 use Prim.Native.Nat.{ℕ, zero, suc, _+_, _<_}
 use native.Mathlib.Nat.{not-suc-le-zero, add-zero, add-suc}
 use native.Mathlib.Decide.{decLt, ℕ-discrete}
+use native.Mathlib.Numerals.{add-one}
 use native.Mathlib.Omega.{arith}
 use lib.Dec.{T}
-use lib.ListN.{length, getD, set, length-append, length-set, length-map, List·getD-append, List·getD-map}
+use lib.ListN.{length, getD, set, replicate, replicate-append-replicate, length-append, length-set, length-map, List·getD-append, List·getD-map}
 use lib.Seq.{getD-at, getD-set-same, getD-set-other, ext-getD}
 use Rattle.mathematics.specs.Tests.{all}
 use Rattle.mathematics.specs.Tables.{tabulate}
@@ -40,6 +41,12 @@ module _ {ℓ} {A : Type ℓ} where
   tabulate-same zero f g h = refl
   tabulate-same (suc n) f g h = rw (tabulate-same n f g (λ i k. h i (omega arith)), h n (omega arith))
 
+  -- the table of one value
+  pub tabulate-constant : (n : ℕ) (a : A) → tabulate n (λ i. a) ≡ replicate n a
+  unfolding tabulate
+  tabulate-constant zero a = refl
+  tabulate-constant (suc n) a = rw (tabulate-constant n a, replicate-append-replicate n 1 a, add-one n)
+
   -- the value of g put in at i, where f and g agree elsewhere
   pub set-tabulate : (n : ℕ) (f g : ℕ → A) (i : ℕ) → i < n → ((k : ℕ) → (k ≡ i → ⊥) → f k ≡ g k) → set (tabulate n f) i (g i) ≡ tabulate n g
   set-tabulate n f g i h same =
@@ -56,6 +63,12 @@ pub tabulate-map {ℓ ℓ′} : {A : Type ℓ} {B : Type ℓ′} (g : A → B) (
 tabulate-map g d xs =
     let n : length (tabulate (length xs) (λ i. g (getD xs i d))) ≡ length xs = length-tabulate (length xs) (λ i. g (getD xs i d)) in
     ext-getD (g d) _ _ (n ∙ sym (length-map xs g)) (λ i h. getD-tabulate (length xs) (λ i. g (getD xs i d)) (g d) i (omega arith) ∙ sym (List·getD-map g xs i d))
+
+-- what g makes of the elements of a table
+pub map-tabulate {ℓ ℓ′} : {A : Type ℓ} {B : Type ℓ′} (g : A → B) (n : ℕ) (f : ℕ → A) → map g (tabulate n f) ≡ tabulate n (λ i. g (f i))
+unfolding tabulate
+map-tabulate g zero f = refl
+map-tabulate g (suc n) f = map-append g (tabulate n f) (f n ∷ []) ∙ rw (map-tabulate g n f)
 
 module _ {A : Type 0} (test : A → Bool) where
   one : (x : A) → T (test x) → T (all test (x ∷ []))

@@ -1,14 +1,16 @@
--- Laws of tests: what a passed test says, a rule that one computed test proves at each number below a bound, and tests of joined lists.
--- Assumes nothing.
-use mathlib.Core.Path.{_≡_, refl, subst}
-use mathlib.Core.Bool.{Bool, true, false, not, cond, _&&_}
-use mathlib.Core.List.{List, [], _∷_, _++_}
+-- Laws of tests: what a passed test says, a rule that one computed test proves at each number below a bound, and tests of joined lists, of
+-- what is left of a list and of images. Assumes nothing.
+use mathlib.Core.Path.{_≡_, refl, sym, subst}
+use mathlib.Core.Bool.{Bool, true, false, not, cond, _&&_, and-assoc}
+use mathlib.Core.List.{List, [], _∷_, _++_, map}
 use Prim.Native.Nat.{ℕ, zero, suc, _+_, _-_, _≤_, _<_}
 use native.Mathlib.Nat.{not-suc-le-zero}
 use native.Mathlib.Decide.{decLt}
 use native.Mathlib.Numerals.{add-one}
 use native.Mathlib.Omega.{arith}
 use lib.Dec.{T}
+use lib.ListN.{length, getD, drop, drop-of-length-le}
+use lib.Seq.{drop-cons}
 use Rattle.mathematics.specs.Tests.{allBelow, all}
 
 pub both : (a b : Bool) → T (a && b) → T a × T b
@@ -45,7 +47,11 @@ below-at (suc n) test t k h = cases (below-at n test (both (allBelow n test) (te
     cases before (yes l) = before l
     cases before (no l) = let e : n ≡ k = omega arith in subst (λ (m : ℕ). T (test m)) e (both (allBelow n test) (test n) t .1)
 
--- one number more, and a number at which the test fails
+-- no number, one more, and a number at which the test fails
+pub below-none : (test : ℕ → Bool) → allBelow 0 test ≡ true
+unfolding allBelow
+below-none test = refl
+
 pub below-next : (n : ℕ) (test : ℕ → Bool) → allBelow n test ≡ true → test n ≡ true → allBelow (n + 1) test ≡ true
 unfolding allBelow
 below-next n test e f = rw (add-one n, e, f)
@@ -60,21 +66,35 @@ between-at a n test t k l h = subst (λ (m : ℕ). T (test m)) (omega arith) (be
 -- ---- lists
 
 module _ {A : Type 0} (test : A → Bool) where
-  pub all-append : (xs ys : List A) → T (all test xs) → T (all test ys) → T (all test (xs ++ ys))
+  pub all-nil : all test [] ≡ true
   unfolding all
-  all-append [] ys s t = t
-  all-append (x ∷ xs) ys s t =
-      let (h, r) = both (test x) (all test xs) s in
-      both-of (test x) (all test (xs ++ ys)) h (all-append xs ys r t)
+  all-nil = refl
+
+  -- two lists joined
+  pub all-joined : (xs ys : List A) → all test (xs ++ ys) ≡ (all test xs && all test ys)
+  unfolding all
+  all-joined [] ys = refl
+  all-joined (x ∷ xs) ys = rw (all-joined xs ys) (sym (and-assoc (test x) (all test xs) (all test ys)))
+
+  pub all-append : (xs ys : List A) → T (all test xs) → T (all test ys) → T (all test (xs ++ ys))
+  all-append xs ys s t = rw (all-joined xs ys) (both-of (all test xs) (all test ys) s t)
 
   pub all-front : (xs ys : List A) → T (all test (xs ++ ys)) → T (all test xs)
-  unfolding all
-  all-front [] ys t = tt
-  all-front (x ∷ xs) ys t =
-      let (h, r) = both (test x) (all test (xs ++ ys)) t in
-      both-of (test x) (all test xs) h (all-front xs ys r)
+  all-front xs ys t = both (all test xs) (all test ys) (rw (all-joined xs ys) at t) .0
 
   pub all-back : (xs ys : List A) → T (all test (xs ++ ys)) → T (all test ys)
+  all-back xs ys t = both (all test xs) (all test ys) (rw (all-joined xs ys) at t) .1
+
+  -- from element i on: that element and the rest, and nothing past the end
+  pub all-next : (xs : List A) (i : ℕ) (d : A) → i < length xs → all test (drop i xs) ≡ (test (getD xs i d) && all test (drop (i + 1) xs))
   unfolding all
-  all-back [] ys t = t
-  all-back (x ∷ xs) ys t = all-back xs ys (both (test x) (all test (xs ++ ys)) t .1)
+  all-next xs i d h = rw (drop-cons xs i d h, add-one i)
+
+  pub all-past : (xs : List A) (i : ℕ) → length xs ≤ i → all test (drop i xs) ≡ true
+  all-past xs i h = rw (drop-of-length-le xs {i = i} h) all-nil
+
+-- the images of a list's elements
+pub all-map : {A B : Type 0} (g : A → B) (test : B → Bool) (xs : List A) → all test (map g xs) ≡ all (λ x. test (g x)) xs
+unfolding all
+all-map g test [] = refl
+all-map g test (x ∷ xs) = rw (all-map g test xs)

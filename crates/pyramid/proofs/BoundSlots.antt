@@ -1,5 +1,5 @@
 -- The bounds of the levels, from level N down: each from the one above it, small enough for 16 bits, and in its slot. Assumes nothing.
-use mathlib.Core.Path.{_≡_, refl, _∙_, ap}
+use mathlib.Core.Path.{_≡_, refl, sym, _∙_, ap}
 use mathlib.Core.Bool.{cond}
 use mathlib.Core.List.{List}
 use Prim.Native.Nat.{ℕ, zero, suc, _+_, _-_, _*_, _/_, _≤_, _<_}
@@ -11,7 +11,7 @@ use lib.ListN.{replicate, set}
 use Rattle.mathematics.specs.Tests.{allBelow}
 use Rattle.mathematics.specs.Tables.{tabulate}
 use Rattle.mathematics.proofs.Tests.{below-at, cond-elim, same-test}
-use Rattle.mathematics.proofs.Tables.{tabulate-same, set-tabulate}
+use Rattle.mathematics.proofs.Tables.{tabulate-same, tabulate-constant, set-tabulate}
 use Rattle.pyramid.specs.declared.Settings.{Settings}
 use Rattle.pyramid.specs.Settings.{bin}
 use Rattle.pyramid.specs.Bound.{magnified, tolerance, bound, boundAt}
@@ -63,9 +63,9 @@ module _ (s : Settings) where
   boundsFrom l = tabulate 7 (inSlot l)
 
   no-bounds : replicate 7 0 ≡ boundsFrom (suc (s .depth))
-  unfolding boundsFrom inSlot tabulate
+  unfolding boundsFrom inSlot
   no-bounds =
-      tabulate-same 7 (λ k. 0) (inSlot (suc (s .depth))) (λ k h.
+      sym (tabulate-constant 7 0) ∙ tabulate-same 7 (λ k. 0) (inSlot (suc (s .depth))) (λ k h.
       cond-elim (leb (suc (s .depth)) k) _ 0 (λ n. 0 ≡ n) (λ t. rw (lt-leb k (s .depth) (leb→le (suc (s .depth)) k t))) (λ t. refl))
 
   one-bound : (l : ℕ) → l ≤ s .depth → l < 7 → set (boundsFrom (suc l)) l (boundAt s l) ≡ boundsFrom l
@@ -75,8 +75,8 @@ module _ (s : Settings) where
       rw here (set-tabulate 7 (inSlot (suc l)) (inSlot l) l k (λ k other. rw (other-level l k other)))
 
   all-bounds : boundsFrom 0 ≡ boundSlots s
-  unfolding boundsFrom inSlot boundSlots tabulate
-  all-bounds = simp leb·zero
+  unfolding boundsFrom inSlot boundSlots
+  all-bounds = tabulate-same 7 _ _ (λ k h. rw leb·zero)
 
 -- ---- what the loop over the levels keeps: b is the bound of level l, and the slots from l on are filled
 

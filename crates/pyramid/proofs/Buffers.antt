@@ -12,7 +12,7 @@ use lib.ListN.{length, getD, length-append, List·getD-append}
 use lib.Seq.{getD-append-add}
 use Rattle.mathematics.specs.Tests.{all}
 use Rattle.mathematics.specs.Tables.{tabulate}
-use Rattle.mathematics.proofs.Tests.{all-append, all-front, all-back}
+use Rattle.mathematics.proofs.Tests.{all-nil, all-append, all-front, all-back}
 use Rattle.mathematics.proofs.Tables.{length-tabulate, getD-tabulate, tabulate-same, all-tabulate, tabulate-all}
 use Rattle.pyramid.specs.declared.Settings.{Settings}
 use Rattle.pyramid.specs.Sizes.{Level, columnsAt, rowsAt, nodesAt, nodesTo, total}
@@ -78,8 +78,8 @@ by-place columns rows P h f p k = subst P (div-add-mod' p columns) (f (p % colum
 
 module _ {A : Type 0} (test : A → Bool) where
   pub all-raster : (columns rows : ℕ) (f : ℕ → ℕ → A) → ((i j : ℕ) → i < columns → j < rows → T (test (f i j))) → T (all test (raster columns rows f))
-  unfolding raster all
-  all-raster columns zero f h = tt
+  unfolding raster
+  all-raster columns zero f h = rw (all-nil test) tt
   all-raster columns (suc r) f h =
       all-append test (raster columns r f) (tabulate columns (λ i. f i r)) (all-raster columns r f (λ i j hi hj. h i j hi (omega arith)))
       (all-tabulate test columns (λ i. f i r) (λ i hi. h i r hi (omega arith)))

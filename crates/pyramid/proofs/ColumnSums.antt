@@ -1,28 +1,18 @@
 -- The sums that the code forms are those of the definitions: five taps of symmetric weights, and their sizes. Assumes nothing.
 use mathlib.Core.Path.{_≡_, sym, _∙_}
 use mathlib.Core.List.{List}
-use Prim.Native.Nat.{ℕ, _+_, _-_, _*_, _^_}
+use Prim.Native.Nat.{ℕ, _+_, _*_}
 use native.Mathlib.Omega.{arith}
-use lib.Dec.{T, ltb}
 use lib.IntN.{ℤ, pos, _+ℤ_, _*ℤ_}
 use lib.ListN.{getD}
-use mir.Syntax.{w32}
-use mir.Val.{SFits}
 use Rattle.mathematics.specs.Sums.{sum}
 use Rattle.mathematics.proofs.Integers.{ints, all₅}
-use Rattle.mathematics.proofs.IntegerLaws.{*ℤ-+ℤ, fits-by}
+use Rattle.mathematics.proofs.IntegerLaws.{*ℤ-+ℤ}
 use Rattle.mathematics.proofs.Held.{held, held-is}
 use Rattle.pyramid.specs.Weights.{weight}
 use Rattle.pyramid.specs.Rows.{asLevel, columnSum, Within, Small}
 use Rattle.pyramid.proofs.Weights.{weight-symmetric}
-
--- ---- numbers that 32 bits hold
-
-pub within-fits : {e : ℕ} {x : ℤ} → T (ltb e (2 ^ 31)) → Within e x → SFits w32 x
-within-fits {e} t w = fits-by w32 e t (w .small)
-
-pub within-held : {e : ℕ} {x : ℤ} → T (ltb e (2 ^ 31)) → Within e x → Within e (held x)
-within-held t w = rw (held-is (within-fits t w)) w
+use Rattle.pyramid.proofs.TapSums.{within-fits}
 
 -- a weight, as `weight_at` returns it
 pub weight-is : {w v : ℤ} → (w ≡ v) × Within 12 w → held w ≡ v

@@ -1,51 +1,47 @@
 -- The numbers that `copying` forms, as the machine forms them: clamped values, indices and the values of indices. Assumes nothing.
 use mathlib.Core.Path.{_≡_, refl, ap, _∙_}
-use mathlib.Core.Bool.{true, false}
-use Prim.Native.Nat.{ℕ, _≤_, _<_}
+use mathlib.Core.Bool.{true, false, true≢false}
+use Prim.Native.Nat.{ℕ, _<_}
 use native.Mathlib.Omega.{arith}
 use borrow.Author.Tests.{ltb-true, ltb-false, le-leb, lt-leb}
 use lib.Dec.{T}
 use lib.IntN.{ℤ, pos, negsuc, natAbs, _+ℤ_, _-ℤ_, _*ℤ_}
-use lib.Signed.{_≤ℤ_, _<ℤ_, ltZ, nonNeg}
+use lib.Signed.{ltZ, nonNeg}
 use mir.Syntax.{w8, w16, w32}
 use mir.Val.{Fits, SFits}
 use Rattle.mathematics.proofs.Held.{held, held-is, natural-fits, short, short-is, widened}
-use Rattle.mathematics.proofs.Integers.{ints, all₁, abs-⊖}
-use Rattle.mathematics.proofs.IntegerLaws.{fits-by, abs-of-fits, abs-sum, abs-minus, abs-product, ltZ-true, ltZ-false}
+use Rattle.mathematics.proofs.IntegerLaws.{fits-by, abs-of-fits, abs-sum, abs-minus, abs-product, abs-between, abs-below, abs-above, ltZ-true, ltZ-false}
 use Rattle.quantizer.specs.Bins.{binIndex}
 use Rattle.pyramid.specs.declared.Settings.{Settings}
 use Rattle.pyramid.specs.Refusals.{limit, indexOk}
 use Rattle.pyramid.specs.Rebuilding.{clamp}
 use Rattle.pyramid.specs.Rows.{Within}
-use Rattle.pyramid.proofs.ColumnSums.{within-fits}
+use Rattle.pyramid.proofs.TapSums.{within-fits}
 
 -- ---- what a value is clamped to
 
 module _ (s : Settings) where
-  never : true ≡ false → ⊥
-  never e = let z : _≡_ {A = ℕ} 0 1 = cc in omega arith
-
   low : (x : ℤ) → ltZ x (pos 0) ≡ true → 0 ≡ clamp s x
   unfolding clamp
   low (pos n) h = omega (arith, ltb-true n 0 h)
   low (negsuc n) h = refl
 
-  byte : (x : ℤ) → ltZ x (pos 0) ≡ false → ltZ x (pos 255) ≡ true → (T (nonNeg x) × Fits w8 (natAbs x)) × (natAbs x ≡ clamp s x)
+  inner : (x : ℤ) → ltZ x (pos 0) ≡ false → ltZ x (pos 255) ≡ true → (T (nonNeg x) × Fits w8 (natAbs x)) × (natAbs x ≡ clamp s x)
   unfolding clamp
-  byte (pos n) g h = let k : n < 255 = ltb-true n 255 h in ((tt, record { fits = omega arith }), omega arith)
-  byte (negsuc n) g h = absurd (never g)
+  inner (pos n) g h = let k : n < 255 = ltb-true n 255 h in ((tt, record { fits = omega arith }), omega arith)
+  inner (negsuc n) g h = absurd (true≢false g)
 
   high : (x : ℤ) → ltZ x (pos 0) ≡ false → ltZ x (pos 255) ≡ false → 255 ≡ clamp s x
   unfolding clamp
   high (pos n) g h = omega (arith, ltb-false n 255 h)
-  high (negsuc n) g h = absurd (never g)
+  high (negsuc n) g h = absurd (true≢false g)
 
   module _ {x : ℤ} (f : SFits w32 x) where
     pub clamp-low : ltZ (held x) (pos 0) ≡ true → 0 ≡ clamp s x
     clamp-low = rw (held-is f) (low x)
 
-    pub clamp-byte : ltZ (held x) (pos 0) ≡ false → ltZ (held x) (pos 255) ≡ true → (T (nonNeg (held x)) × Fits w8 (natAbs (held x))) × (natAbs (held x) ≡ clamp s x)
-    clamp-byte = rw (held-is f) (byte x)
+    pub clamp-inner : ltZ (held x) (pos 0) ≡ false → ltZ (held x) (pos 255) ≡ true → (T (nonNeg (held x)) × Fits w8 (natAbs (held x))) × (natAbs (held x) ≡ clamp s x)
+    clamp-inner = rw (held-is f) (inner x)
 
     pub clamp-high : ltZ (held x) (pos 0) ≡ false → ltZ (held x) (pos 255) ≡ false → 255 ≡ clamp s x
     clamp-high = rw (held-is f) (high x)
@@ -73,15 +69,6 @@ module _ {a p : ℤ} (ha : Within 8388608 a) (hp : Within 8388608 p) where
     index-short = short-is index-fits ∙ index-held
 
 -- ---- the value of an index
-
-far-below : (z : ℤ) → z <ℤ negsuc 4095 → 4096 < natAbs z
-far-below = all₁ _ (λ p n. simp (ints, abs-⊖) (omega arith))
-
-far-above : (z : ℤ) → pos 4096 <ℤ z → 4096 < natAbs z
-far-above = all₁ _ (λ p n. simp (ints, abs-⊖) (omega arith))
-
-close : (z : ℤ) → negsuc 4095 ≤ℤ z → z ≤ℤ pos 4096 → natAbs z ≤ 4096
-close = all₁ _ (λ p n. simp ints (omega arith))
 
 module _ {m : ℤ} (hm : SFits w16 m) {n : ℕ} (hn : Fits w16 n) where
   -- as it is stored
@@ -111,12 +98,12 @@ module _ {m : ℤ} (hm : SFits w16 m) {n : ℕ} (hn : Fits w16 n) where
   -- what the tests of its range tell
   pub value-low : ltZ value (negsuc 4095) ≡ true → indexOk n m ≡ false
   unfolding indexOk
-  value-low = rw value-is (λ h. lt-leb _ limit (far-below (m *ℤ pos n) (ltZ-true h)))
+  value-low = rw value-is (λ h. lt-leb _ limit (abs-below 4095 (m *ℤ pos n) (ltZ-true h)))
 
   pub value-high : ltZ (pos 4096) value ≡ true → indexOk n m ≡ false
   unfolding indexOk
-  value-high = rw value-is (λ h. lt-leb _ limit (far-above (m *ℤ pos n) (ltZ-true h)))
+  value-high = rw value-is (λ h. lt-leb _ limit (abs-above limit (m *ℤ pos n) (ltZ-true h)))
 
   pub value-within : ltZ value (negsuc 4095) ≡ false → ltZ (pos 4096) value ≡ false → indexOk n m ≡ true
   unfolding indexOk
-  value-within = rw value-is (λ g h. le-leb _ limit (close (m *ℤ pos n) (ltZ-false g) (ltZ-false h)))
+  value-within = rw value-is (λ g h. le-leb _ limit (abs-between limit (negsuc 4095) (m *ℤ pos n) (pos 4096) (ltZ-false g) (ltZ-false h) (omega arith) (omega arith)))

@@ -16,8 +16,8 @@ use Rattle.pyramid.specs.Weights.{weight}
 use Rattle.pyramid.specs.Edge.{reflect}
 use Rattle.pyramid.specs.Steps.{evenWeight, halved}
 use Rattle.pyramid.proofs.Weights.{weight-symmetric, even-parity}
-use Rattle.pyramid.proofs.TapSums.{Value, Weight, value-fits, weight-fits, three-small}
-use Rattle.pyramid.proofs.ColumnSums.{within-held, weight-is}
+use Rattle.pyramid.proofs.TapSums.{within-fits, within-held, Value, Weight, three-small}
+use Rattle.pyramid.proofs.ColumnSums.{weight-is}
 
 -- ---- what is passed to `three`, and what comes back
 
@@ -26,14 +26,14 @@ abbrev pub weighed : ℤ → ℤ → ℤ → ℤ → ℤ → ℤ
 weighed w v a b c = w *ℤ (a +ℤ c) +ℤ v *ℤ b
 
 pub values-passed : (w v : ℤ) {a b c : ℤ} → Value a → Value b → Value c → weighed w v (held a) (held b) (held c) ≡ weighed w v a b c
-values-passed w v {a} {b} {c} ha hb hc = rw (held-is (value-fits a ha), held-is (value-fits b hb), held-is (value-fits c hc))
+values-passed w v {a} {b} {c} ha hb hc = rw (held-is (within-fits tt ha), held-is (within-fits tt hb), held-is (within-fits tt hc))
 
 module _ {w v a b c : ℤ} (hw : Weight w) (hv : Weight v) (ha : Value a) (hb : Value b) (hc : Value c) where
   pub three-asked : (Weight (held w) × Weight (held v)) × (Value (held a) × Value (held b) × Value (held c))
   three-asked = ((within-held tt hw, within-held tt hv), (within-held tt ha, within-held tt hb, within-held tt hc))
 
   three-passed : weighed (held w) (held v) (held a) (held b) (held c) ≡ weighed w v a b c
-  three-passed = values-passed (held w) (held v) ha hb hc ∙ rw (held-is (weight-fits w hw), held-is (weight-fits v hv))
+  three-passed = values-passed (held w) (held v) ha hb hc ∙ rw (held-is (within-fits tt hw), held-is (within-fits tt hv))
 
   -- four times that
   module _ {r : ℤ} (e : r ≡ weighed (held w) (held v) (held a) (held b) (held c)) where

@@ -1,58 +1,42 @@
 -- The lowest and the highest index pass the test of number 11 where all do: what lies between two that pass, passes. Assumes nothing.
-use mathlib.Core.Path.{_≡_, refl, sym, _∙_}
-use mathlib.Core.Bool.{Bool, true, false, not, _&&_}
+use mathlib.Core.Path.{_≡_, sym, _∙_}
+use mathlib.Core.Bool.{Bool, true, false, _&&_, and-assoc, and-true}
 use mathlib.Core.List.{List}
 use Prim.Native.Nat.{ℕ, _+_, _*_, _≤_, _<_}
-use native.Mathlib.Numerals.{add-one}
 use native.Mathlib.Omega.{arith}
 use borrow.Author.Tests.{le-leb}
 use lib.Dec.{T, leb→le, le→leb}
-use lib.IntN.{ℤ, pos, natAbs, _*ℤ_}
-use lib.ListN.{length, getD, drop, drop-of-length-le}
-use lib.Seq.{drop-cons}
-use lib.Signed.{_≤ℤ_, _<ℤ_, ltZ}
+use lib.IntN.{ℤ, pos, _*ℤ_}
+use lib.ListN.{length, getD, drop}
+use lib.Signed.{_≤ℤ_, ltZ, ltZ-yes, ltZ-no, ≤ℤ-refl}
 use mir.Syntax.{w16}
 use mir.Val.{SFits}
 use Rattle.mathematics.specs.Tests.{all}
 use Rattle.mathematics.proofs.Held.{short, short-is}
-use Rattle.mathematics.proofs.Integers.{ints, all₁, all₂, all₃}
-use Rattle.mathematics.proofs.IntegerLaws.{≤ℤ-trans, *ℤ-mono, ltZ-false}
-use Rattle.mathematics.proofs.Tests.{both, both-of, same-test, cond-elim}
+use Rattle.mathematics.proofs.IntegerLaws.{≤ℤ-trans, <ℤ-≤ℤ, *ℤ-mono, abs-between}
+use Rattle.mathematics.proofs.Tests.{both, both-of, same-test, cond-elim, all-next, all-past}
 use Rattle.pyramid.specs.declared.IndexRange.{IndexRange}
 use Rattle.pyramid.specs.Refusals.{limit, indexOk}
 use Rattle.pyramid.specs.IndexRanges.{lesser, greater, widened, rangeOk}
 
 -- ---- the order of the lesser and the greater
 
-≤ℤ-refl : (x : ℤ) → x ≤ℤ x
-≤ℤ-refl = all₁ _ (λ p n. simp ints (omega arith))
-
-less-le : (x y : ℤ) → x <ℤ y → x ≤ℤ y
-less-le = all₂ _ (λ p n q m. simp ints (omega arith))
-
-is-false : (b : Bool) → T (not b) → b ≡ false
-is-false true t = absurd t
-is-false false t = refl
-
-not-less : (x y : ℤ) → T (not (ltZ x y)) → y ≤ℤ x
-not-less x y t = ltZ-false (is-false (ltZ x y) t)
-
 module _ (a b : ℤ) where
   lesser-first : lesser a b ≤ℤ a
   unfolding lesser
-  lesser-first = cond-elim (ltZ b a) b a (λ z. z ≤ℤ a) (λ t. less-le b a (record { lt = t })) (λ t. ≤ℤ-refl a)
+  lesser-first = cond-elim (ltZ b a) b a (λ z. z ≤ℤ a) (λ t. <ℤ-≤ℤ (ltZ-yes t)) (λ t. ≤ℤ-refl a)
 
   lesser-second : lesser a b ≤ℤ b
   unfolding lesser
-  lesser-second = cond-elim (ltZ b a) b a (λ z. z ≤ℤ b) (λ t. ≤ℤ-refl b) (λ t. not-less b a t)
+  lesser-second = cond-elim (ltZ b a) b a (λ z. z ≤ℤ b) (λ t. ≤ℤ-refl b) (λ t. ltZ-no t)
 
   greater-first : a ≤ℤ greater a b
   unfolding greater
-  greater-first = cond-elim (ltZ a b) b a (λ z. a ≤ℤ z) (λ t. less-le a b (record { lt = t })) (λ t. ≤ℤ-refl a)
+  greater-first = cond-elim (ltZ a b) b a (λ z. a ≤ℤ z) (λ t. <ℤ-≤ℤ (ltZ-yes t)) (λ t. ≤ℤ-refl a)
 
   greater-second : b ≤ℤ greater a b
   unfolding greater
-  greater-second = cond-elim (ltZ a b) b a (λ z. b ≤ℤ z) (λ t. ≤ℤ-refl b) (λ t. not-less a b t)
+  greater-second = cond-elim (ltZ a b) b a (λ z. b ≤ℤ z) (λ t. ≤ℤ-refl b) (λ t. ltZ-no t)
 
 -- as the machine finds them
 module _ {a b : ℤ} (fa : SFits w16 a) (fb : SFits w16 b) where
@@ -93,14 +77,11 @@ module _ {range : IndexRange} (fl : SFits w16 (range .low)) (fh : SFits w16 (ran
 
 -- ---- what lies between two that pass, passes
 
-between : (k : ℕ) (x y z : ℤ) → x ≤ℤ y → y ≤ℤ z → natAbs x ≤ k → natAbs z ≤ k → natAbs y ≤ k
-between k = all₃ _ (λ p n q m r s. simp ints (omega arith))
-
 module _ (n : ℕ) where
   between-ok : (x y z : ℤ) → x ≤ℤ y → y ≤ℤ z → T (indexOk n x) → T (indexOk n z) → T (indexOk n y)
   unfolding indexOk
   between-ok x y z g h s t =
-      le→leb _ limit (between limit (x *ℤ pos n) (y *ℤ pos n) (z *ℤ pos n) (*ℤ-mono n x y g) (*ℤ-mono n y z h) (leb→le _ limit s) (leb→le _ limit t))
+      le→leb _ limit (abs-between limit (x *ℤ pos n) (y *ℤ pos n) (z *ℤ pos n) (*ℤ-mono n x y g) (*ℤ-mono n y z h) (leb→le _ limit s) (leb→le _ limit t))
 
   lesser-ok : (a b : ℤ) → T (indexOk n a) → T (indexOk n b) → T (indexOk n (lesser a b))
   unfolding lesser
@@ -141,14 +122,6 @@ module _ (n : ℕ) where
 
 -- ---- a loop that widens the range by one index a turn: those before i pass where the range does
 
-and-assoc : (a b c : Bool) → (a && (b && c)) ≡ ((a && b) && c)
-and-assoc true b c = refl
-and-assoc false b c = refl
-
-and-true : (a : Bool) → (a && true) ≡ a
-and-true true = refl
-and-true false = refl
-
 pub record Ranged (n : ℕ) (xs : List ℤ) (i : ℕ) (range : IndexRange) : Type 0 where
   pub bound : i ≤ length xs
   pub order : range .low ≤ℤ range .high
@@ -166,17 +139,14 @@ module _ (n : ℕ) where
   -- a turn, with the index and the range that it stored
   module _ {xs : List ℤ} {i : ℕ} {range next : IndexRange} {x : ℤ} (r : Ranged n xs i range) (h : i < length xs) where
     pub ranged-next : (d : ℤ) → x ≡ getD xs i d → next ≡ widened range x → Ranged n xs (i + 1) next
-    unfolding all
     ranged-next d read stored =
         let later = all (indexOk n) (drop (i + 1) xs) in
-        let e : all (indexOk n) (drop i xs) ≡ (indexOk n x && later) = rw (drop-cons xs i d h, add-one i, read) in
         rw stored
         (record {
           bound = omega arith;
           order = widened-ordered n range x (r .order);
-          rest = r .rest ∙ rw (e, and-assoc (rangeOk n range) (indexOk n x) later, widened-ok n range x (r .order));
+          rest = r .rest ∙ rw (all-next (indexOk n) xs i d h, ← read, ← and-assoc (rangeOk n range) (indexOk n x) later, widened-ok n range x (r .order));
         })
 
   pub ranged-end : {xs : List ℤ} {i : ℕ} {range : IndexRange} → Ranged n xs i range → length xs ≤ i → rangeOk n range ≡ all (indexOk n) xs
-  unfolding all
-  ranged-end {xs} {i} {range} r h = sym (rw (drop-of-length-le xs {i = i} h, and-true (rangeOk n range)) at (r .rest))
+  ranged-end {xs} {i} {range} r h = sym (rw (all-past (indexOk n) xs i h, and-true (rangeOk n range)) at (r .rest))

@@ -9,6 +9,7 @@ use lib.ListN.{length, getD}
 use Rattle.mathematics.specs.Splices.{splice}
 use Rattle.mathematics.specs.Tables.{tabulate}
 use Rattle.mathematics.proofs.Tables.{tabulate-same}
+use Rattle.mathematics.proofs.Filling.{getD-written}
 use Rattle.quantizer.specs.Bins.{binIndex}
 use Rattle.pyramid.specs.declared.Settings.{Settings}
 use Rattle.pyramid.specs.Settings.{bin}
@@ -22,7 +23,6 @@ use Rattle.pyramid.proofs.Rendering.{Rendering, rendering-next}
 use Rattle.pyramid.proofs.LevelParts.{level-inside}
 use Rattle.pyramid.proofs.TapSums.{within-more}
 use Rattle.pyramid.proofs.SmallBuffers.{by-length}
-use Rattle.pyramid.proofs.ReduceRows.{sum-there}
 use Rattle.pyramid.proofs.PredictedRows.{rowOf, length-row, row-node}
 
 -- j rows of level l are there
@@ -49,7 +49,7 @@ module _ {s : Settings} {l : ℕ} {work w : List ℤ} (v : IndexLevel s l work w
     module _ {made : List ℤ} (row : List ℤ) (is : made ≡ splice 0 (tabulate (columnsAt s l) (λ i. predicted s (s .depth - l) l (readLevels s work) i j)) row) where
       index-node : (i : ℕ) → i < columnsAt s l → binIndex (getD (rowOf s l j work) i (pos 0) -ℤ getD made i (pos 0)) (bin s l) ≡ indexAt s (readLevels s work) l i j
       unfolding indexAt indexOf
-      index-node i hi = rw (average-node i hi, is, sum-there (columnsAt s l) (λ i. predicted s (s .depth - l) l (readLevels s work) i j) row i hi)
+      index-node i hi = rw (average-node i hi, is, getD-written (columnsAt s l) (λ i. predicted s (s .depth - l) l (readLevels s work) i j) row (pos 0) i hi)
 
       pub indices-within : IndicesWithin (rowOf s l j work) made (bin s l)
       indices-within = record {

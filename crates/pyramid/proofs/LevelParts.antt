@@ -1,8 +1,8 @@
 -- A level is a part of a buffer of all levels: where it begins and ends, what it holds, and tests of one level after another.
 -- Assumes nothing.
 use mathlib.Core.Path.{_≡_, refl, sym, _∙_}
-use mathlib.Core.Bool.{Bool, true, false, _&&_, and-assoc}
-use mathlib.Core.List.{List, [], _∷_, _++_, map, map-append}
+use mathlib.Core.Bool.{Bool, true, false}
+use mathlib.Core.List.{List, map, map-append}
 use Prim.Native.Nat.{ℕ, zero, suc, _+_, _-_, _*_, _≤_, _<_}
 use native.Mathlib.Nat.{not-suc-le-zero}
 use native.Mathlib.Omega.{arith}
@@ -12,7 +12,9 @@ use lib.Seq.{ext-getD}
 use Rattle.mathematics.specs.Tests.{all}
 use Rattle.mathematics.specs.Tables.{tabulate}
 use Rattle.mathematics.specs.Splices.{part}
-use Rattle.mathematics.proofs.Splices.{length-part, getD-part}
+use Rattle.mathematics.proofs.Tables.{map-tabulate}
+use Rattle.mathematics.proofs.Splices.{part-long, getD-part}
+pub use Rattle.mathematics.proofs.Tests.{all-map, all-joined}
 use Rattle.pyramid.specs.declared.Settings.{Settings}
 use Rattle.pyramid.specs.Sizes.{Level, columnsAt, rowsAt, nodesAt, nodesTo, total}
 use Rattle.pyramid.specs.Buffers.{raster, levelRaster, stack, start, readLevels}
@@ -54,7 +56,7 @@ module _ (s : Settings) where
 
   module _ (buffer : List ℤ) (l : ℕ) (h : l ≤ s .depth) (long : total s ≤ length buffer) where
     pub length-level : length (part (start s l) (start s l + nodesAt s l) buffer) ≡ nodesAt s l
-    length-level = length-part (start s l) (start s l + nodesAt s l) buffer (omega arith) (omega (arith, level-inside l h)) ∙ omega arith
+    length-level = part-long (start s l) (nodesAt s l) buffer (omega (arith, level-inside l h))
 
     abbrev Same : ℕ → Type 0
     Same p = getD (part (start s l) (start s l + nodesAt s l) buffer) p (pos 0) ≡ getD (levelRaster s (readLevels s buffer) l) p (pos 0)
@@ -80,29 +82,12 @@ module _ (s : Settings) where
 
 -- ---- what a function makes of all nodes
 
-module _ {A B : Type 0} (g : A → B) where
-  map-tabulate : (n : ℕ) (f : ℕ → A) → map g (tabulate n f) ≡ tabulate n (λ i. g (f i))
-  unfolding tabulate
-  map-tabulate zero f = refl
-  map-tabulate (suc n) f = map-append g (tabulate n f) (f n ∷ []) ∙ rw (map-tabulate n f)
-
-  pub map-raster : (columns rows : ℕ) (f : ℕ → ℕ → A) → map g (raster columns rows f) ≡ raster columns rows (λ i j. g (f i j))
-  unfolding raster
-  map-raster columns zero f = refl
-  map-raster columns (suc j) f = map-append g (raster columns j f) (tabulate columns (λ i. f i j)) ∙ rw (map-raster columns j f, map-tabulate columns (λ i. f i j))
-
-  pub all-map : (test : B → Bool) (xs : List A) → all test (map g xs) ≡ all (λ x. test (g x)) xs
-  unfolding all
-  all-map test [] = refl
-  all-map test (x ∷ xs) = rw (all-map test xs)
+pub map-raster : {A B : Type 0} (g : A → B) (columns rows : ℕ) (f : ℕ → ℕ → A) → map g (raster columns rows f) ≡ raster columns rows (λ i j. g (f i j))
+unfolding raster
+map-raster g columns zero f = refl
+map-raster g columns (suc j) f = map-append g (raster columns j f) (tabulate columns (λ i. f i j)) ∙ rw (map-raster g columns j f, map-tabulate g columns (λ i. f i j))
 
 -- ---- tests of the levels, from the top down
-
-module _ {A : Type 0} (test : A → Bool) where
-  pub all-joined : (xs ys : List A) → all test (xs ++ ys) ≡ (all test xs && all test ys)
-  unfolding all
-  all-joined [] ys = refl
-  all-joined (x ∷ xs) ys = rw (all-joined xs ys) (sym (and-assoc (test x) (all test xs) (all test ys)))
 
 module _ (s : Settings) (test : ℤ → Bool) (f : ℕ → Level) where
   pub stack-bottom : (l : ℕ) → l ≤ 0 → all test (stack s f l) ≡ all test (levelRaster s f l)

@@ -6,7 +6,7 @@ use native.Mathlib.Omega.{arith}
 use lib.IntN.{ℤ, pos}
 use lib.ListN.{length}
 use Rattle.mathematics.specs.Splices.{splice, part}
-use Rattle.mathematics.proofs.Distance.{Near, near-refl, near-same}
+use Rattle.mathematics.proofs.Distance.{Near, near-same, same-near}
 use Rattle.pyramid.specs.declared.Settings.{Settings}
 use Rattle.pyramid.specs.Lawful.{Kernel, Lawful}
 use Rattle.pyramid.specs.Sizes.{Level, last, columnsAt, rowsAt, nodesAt, total}
@@ -29,11 +29,8 @@ use Rattle.pyramid.proofs.LevelParts.{start-below, level-inside, length
 abbrev Same : (zc zr : ℕ) → Level → Level → Type 0
 Same zc zr u v = (i j : ℕ) → i ≤ zc → j ≤ zr → u i j ≡ v i j
 
-agree : {x y : ℤ} → x ≡ y → Near 0 x y
-agree {x} e = subst (Near 0 x) e (near-refl x)
-
 pub reduce-same : {k : ℕ} → Kernel k → (zc zr : ℕ) (u v : Level) → Same zc zr u v → 2 ≤ zc → 2 ≤ zr → Same (zc / 2) (zr / 2) (reduce k zc zr u) (reduce k zc zr v)
-reduce-same h zc zr u v same hc hr i j hi hj = near-same (near-reduce h zc zr 0 u v (λ i j hi hj. agree (same i j hi hj)) hc hr i j hi hj)
+reduce-same h zc zr u v same hc hr i j hi hj = near-same (near-reduce h zc zr 0 u v (λ i j hi hj. same-near (same i j hi hj)) hc hr i j hi hj)
 
 none-magnified : (k : ℕ) → magnified k 0 ≡ 0
 unfolding magnified
@@ -42,7 +39,7 @@ none-magnified k = omega arith
 pub expand-same : {k : ℕ} → Kernel k → (zc zr : ℕ) (u v : Level) → Same zc zr u v → 1 ≤ zc → 1 ≤ zr → Same (2 * zc + 1) (2 * zr + 1) (expand k zc zr u) (expand k zc zr v)
 expand-same {k} h zc zr u v same hc hr i j hi hj =
     near-same (subst (λ (e : ℕ). Near e (expand k zc zr u i j) (expand k zc zr v i j)) (none-magnified k)
-    (near-expand h zc zr 0 u v (λ i j hi hj. agree (same i j hi hj)) hc hr i j hi hj))
+    (near-expand h zc zr 0 u v (λ i j hi hj. same-near (same i j hi hj)) hc hr i j hi hj))
 
 -- a level that has one above it has at least three columns and rows
 module _ (s : Settings) (law : Lawful s) (l : ℕ) (h : l < s .depth) where

@@ -6,7 +6,7 @@ use native.Mathlib.Omega.{arith}
 use lib.IntN.{ℤ}
 use lib.ListN.{length}
 use Rattle.mathematics.specs.Splices.{part}
-use Rattle.mathematics.proofs.Splices.{length-part}
+use Rattle.mathematics.proofs.Splices.{part-long}
 use Rattle.pyramid.specs.declared.Settings.{Settings}
 use Rattle.pyramid.specs.Lawful.{Lawful}
 use Rattle.pyramid.specs.Sizes.{Level, columnsAt, rowsAt, total}
@@ -32,7 +32,7 @@ module _ (s : Settings) (law : Lawful s) where
   -- the last part of a buffer
   module _ (b : List ℤ) (long : total s ≤ length b) where
     pub picture-length : length (part (start s 0) (total s) b) ≡ s .rows * s .columns
-    picture-length = length-part (start s 0) (total s) b (omega (arith, picture-nodes)) long ∙ omega (arith, picture-nodes)
+    picture-length = rw picture-nodes at (part-long (start s 0) (s .rows * s .columns) b (omega (arith, picture-nodes)))
 
     picture-part : part (start s 0) (total s) b ≡ levelRaster s (readLevels s b) 0
     picture-part = rw (start-bottom s) at (level-part s b 0 (omega arith) long)

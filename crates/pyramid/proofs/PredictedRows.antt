@@ -11,7 +11,7 @@ use lib.ListN.{length, getD, replicate, length-replicate}
 use Rattle.mathematics.specs.Splices.{splice, part}
 use Rattle.mathematics.specs.Tables.{tabulate}
 use Rattle.mathematics.proofs.Tables.{length-tabulate}
-use Rattle.mathematics.proofs.Splices.{length-part, length-splice, getD-part}
+use Rattle.mathematics.proofs.Splices.{part-long, length-splice, getD-part}
 use Rattle.mathematics.proofs.Distance.{near-zero, abs-near}
 use Rattle.pyramid.specs.declared.Settings.{Settings}
 use Rattle.pyramid.specs.Lawful.{Lawful}
@@ -96,7 +96,7 @@ module _ (s : Settings) (l j : ℕ) where
 
     module _ (buffer : List ℤ) (long : total s ≤ length buffer) where
       pub length-row : length (rowOf s l j buffer) ≡ columnsAt s l
-      length-row = length-part (start s l + j * columnsAt s l) (start s l + j * columnsAt s l + columnsAt s l) buffer (omega arith) (omega (arith, row-room)) ∙ omega arith
+      length-row = part-long (start s l + j * columnsAt s l) (columnsAt s l) buffer (omega (arith, row-room))
 
       pub row-node : (i : ℕ) → i < columnsAt s l → getD (rowOf s l j buffer) i (pos 0) ≡ readLevels s buffer l i j
       unfolding readLevels

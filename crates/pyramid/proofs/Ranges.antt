@@ -33,6 +33,7 @@ use Rattle.pyramid.proofs.Edge.{reduce-inside, expand-inside}
 use Rattle.pyramid.proofs.Buffers.{stack-all}
 use Rattle.pyramid.proofs.Steps.{spread, near-reduce, reduce-constant, expand-constant}
 use Rattle.pyramid.proofs.Within.{NearAt, near-index, near-expanded}
+use Rattle.pyramid.proofs.LevelSteps.{level-wide, level-high}
 
 -- ---- how far averages of level l lie from 127, and what EXPAND of a level can make of a distance
 
@@ -80,7 +81,7 @@ module _ (s : Settings) (law : Lawful s) where
     near-average (suc l) hl i j hi hj =
         subst (Near (spread (spreadTo l)) (reduced s l (average s p l) i j)) (reduce-constant (law .shaped .kernel) (last (s .columns) l) (last (s .rows) l) (pos 127) i j)
         (near-reduce (law .shaped .kernel) (last (s .columns) l) (last (s .rows) l) (spreadTo l) (average s p l) (λ i j. pos 127) (near-average l (omega arith))
-        (omega (arith, last-suc (s .columns) l, last-least (law .shaped .across) (suc l) hl)) (omega (arith, last-suc (s .rows) l, last-least (law .shaped .along) (suc l) hl))
+        (level-wide s law l hl) (level-high s law l hl)
         i j (omega (arith, last-suc (s .columns) l)) (omega (arith, last-suc (s .rows) l)))
 
     small-average : (l : ℕ) → l ≤ s .depth → NearAt s law l 3968 (average s p l) (λ i j. pos 0)
@@ -116,8 +117,8 @@ module _ (s : Settings) (law : Lawful s) where
   reduce-sums l hl g e small i j hi hj =
       window-sums (weight (s .kernel)) (weight (s .kernel)) (λ t. reflect (last (s .columns) l) (2 * i + t)) (λ t. reflect (last (s .rows) l) (2 * j + t)) g e
       (λ m n hm hn. abs-near (small _ _
-      (reduce-inside (last (s .columns) l) i m (omega (arith, last-suc (s .columns) l, last-least (law .shaped .across) (suc l) hl)) (omega (arith, last-suc (s .columns) l)) hm)
-      (reduce-inside (last (s .rows) l) j n (omega (arith, last-suc (s .rows) l, last-least (law .shaped .along) (suc l) hl)) (omega (arith, last-suc (s .rows) l)) hn)))
+      (reduce-inside (last (s .columns) l) i m (level-wide s law l hl) (omega (arith, last-suc (s .columns) l)) hm)
+      (reduce-inside (last (s .rows) l) j n (level-high s law l hl) (omega (arith, last-suc (s .rows) l)) hn)))
       24 (weight-size (law .shaped .kernel)) (weight-size (law .shaped .kernel))
 
   expand-sums : (l : ℕ) → l < s .depth → (g : Level) (e : ℕ) → NearAt s law (suc l) e g (λ i j. pos 0) → ExpandSums s l g e

@@ -1,7 +1,8 @@
 -- The sums of products in `five` and `three`, as the machine forms them: each step fits 32 bits, and the last is the sum. Assumes nothing.
 use mathlib.Core.Path.{_≡_, _∙_}
-use Prim.Native.Nat.{ℕ, _≤_}
+use Prim.Native.Nat.{ℕ, _^_, _≤_}
 use native.Mathlib.Nat.{le-trans}
+use lib.Dec.{T, ltb}
 use lib.IntN.{ℤ, natAbs, _+ℤ_, _*ℤ_}
 use mir.Syntax.{w32}
 use mir.Val.{SFits}
@@ -11,6 +12,13 @@ use Rattle.mathematics.proofs.IntegerLaws.{fits-by, abs-sum, abs-product}
 
 pub within-more : {e f : ℕ} {x : ℤ} → e ≤ f → Within e x → Within f x
 within-more h w = record { small = le-trans (w .small) h }
+
+-- numbers that 32 bits hold
+pub within-fits : {e : ℕ} {x : ℤ} → T (ltb e (2 ^ 31)) → Within e x → SFits w32 x
+within-fits {e} t w = fits-by w32 e t (w .small)
+
+pub within-held : {e : ℕ} {x : ℤ} → T (ltb e (2 ^ 31)) → Within e x → Within e (held x)
+within-held t w = rw (held-is (within-fits t w)) w
 
 -- a value, and a weight
 abbrev pub Value : ℤ → Type 0
@@ -32,31 +40,25 @@ outers w a e v b d hw ha he hv hb hd =
 middle : (w c : ℤ) → Weight w → Value c → natAbs (w *ℤ c) ≤ 100663296
 middle w c hw hc = abs-product 12 8388608 w c (hw .small) (hc .small)
 
-pub value-fits : (x : ℤ) → Value x → SFits w32 x
-value-fits x h = fits-by w32 8388608 tt (h .small)
-
-pub weight-fits : (w : ℤ) → Weight w → SFits w32 w
-weight-fits w h = fits-by w32 12 tt (h .small)
-
 -- ---- what the machine forms, step by step
 
 module _ {a e : ℤ} (ha : Value a) (he : Value e) where
   pair-is : held a +ℤ held e ≡ a +ℤ e
-  pair-is = rw (held-is (value-fits a ha), held-is (value-fits e he))
+  pair-is = rw (held-is (within-fits tt ha), held-is (within-fits tt he))
 
   pub pair-fits : SFits w32 (held a +ℤ held e)
   pair-fits = rw pair-is (fits-by w32 16777216 tt (pair a e ha he))
 
   module _ {w : ℤ} (hw : Weight w) where
     outer-is : held w *ℤ held (held a +ℤ held e) ≡ w *ℤ (a +ℤ e)
-    outer-is = rw (held-is pair-fits, pair-is, held-is (weight-fits w hw))
+    outer-is = rw (held-is pair-fits, pair-is, held-is (within-fits tt hw))
 
     pub outer-fits : SFits w32 (held w *ℤ held (held a +ℤ held e))
     outer-fits = rw outer-is (fits-by w32 201326592 tt (outer w a e hw ha he))
 
 module _ {w c : ℤ} (hw : Weight w) (hc : Value c) where
   middle-is : held w *ℤ held c ≡ w *ℤ c
-  middle-is = rw (held-is (weight-fits w hw), held-is (value-fits c hc))
+  middle-is = rw (held-is (within-fits tt hw), held-is (within-fits tt hc))
 
   pub middle-fits : SFits w32 (held w *ℤ held c)
   middle-fits = rw middle-is (fits-by w32 100663296 tt (middle w c hw hc))

@@ -9,6 +9,7 @@ use Rattle.mathematics.specs.Splices.{splice}
 use Rattle.mathematics.specs.Tables.{tabulate}
 use Rattle.mathematics.proofs.Tables.{tabulate-same}
 use Rattle.mathematics.proofs.Splices.{getD-part}
+use Rattle.mathematics.proofs.Filling.{getD-written}
 use Rattle.pyramid.specs.declared.Settings.{Settings}
 use Rattle.pyramid.specs.Settings.{bin}
 use Rattle.pyramid.specs.Lawful.{Lawful}
@@ -20,7 +21,6 @@ use Rattle.pyramid.specs.Rows.{ValuesWithin}
 use Rattle.pyramid.specs.Layers.{predicted, valueAt, LevelSmall, ValueLevel}
 use Rattle.pyramid.proofs.Buffers.{inside, raster-same}
 use Rattle.pyramid.proofs.Rendering.{Rendering, rendering-next, rendering-before}
-use Rattle.pyramid.proofs.ReduceRows.{sum-there}
 use Rattle.pyramid.proofs.LevelParts.{start-below, start-next, level-inside}
 use Rattle.pyramid.proofs.LevelPlaces.{topped, length-topped, topped-first, topped-next, read-topped, topped-last}
 use Rattle.pyramid.proofs.PredictedRows.{predicted-same, rowOf, length-row, row-node}
@@ -72,7 +72,7 @@ module _ {s : Settings} {l : ℕ} {levels w : List ℤ} (v : ValueLevel s l leve
         (ap (λ (xs : List ℤ). splice (start s l + j * columnsAt s l) xs work)
         (tabulate-same (columnsAt s l) _ _ (λ i hi. rw (
           index-node turn i hi,
-          sum-there (columnsAt s l) (λ i. predicted s (s .depth - l) l (readLevels s work) i j) row i hi,
+          getD-written (columnsAt s l) (λ i. predicted s (s .depth - l) l (readLevels s work) i j) row (pos 0) i hi,
           predicted-same s law l (v .deep) (readLevels s work) (readLevels s w) above-kept i j hi turn,
         )))))
         turn

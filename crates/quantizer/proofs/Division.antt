@@ -12,6 +12,7 @@ use mir.Val.{SFits, hbits, toZ, ofZ}
 use mir.Facts.{toZ-pos}
 use Rattle.mathematics.proofs.Integers.{ints, all₁, all₂, all₃, all₄, all₅}
 use Rattle.mathematics.proofs.IntegerLaws.{*ℤ-cancel, fits-by}
+use Rattle.mathematics.proofs.Held.{held, held-is}
 use Rattle.quantizer.specs.Division.{Floor, Divisor}
 
 -- ---- division toward zero
@@ -162,7 +163,7 @@ pub bits-positive : (w : Width) (d : ℤ) → pos 1 ≤ℤ d → 0 < ofZ w d
 bits-positive w (pos n) h = leb→le 1 n (h .le)
 bits-positive w (negsuc n) h = absurd (h .le)
 
--- ---- a 16-bit divisor and addend, read as 32 bits
+-- ---- a 16-bit divisor and addend, read as 32 bits, and what is divided, as it is held
 
 module _ (d h : ℕ) (k : 0 < d) (m : d < 65536) (l : h < d) where
   pub divisor-bits : Divisor (toZ w32 d) (toZ w32 h)
@@ -175,5 +176,5 @@ module _ (d h : ℕ) (k : 0 < d) (m : d < 65536) (l : h < d) where
         below = record { lt = lt→ltb h d l };
       })
 
-  pub floor-bits : (x : ℤ) {q : ℤ} → Floor (x +ℤ toZ w32 h) (toZ w32 d) q → Floor (x +ℤ pos h) (pos d) q
-  floor-bits x f = rw (toZ-pos w32 {n = d} (omega arith), toZ-pos w32 {n = h} (omega arith)) at f
+  pub floor-bits : {x q : ℤ} → SFits w32 x → Floor (held x +ℤ toZ w32 h) (toZ w32 d) q → Floor (x +ℤ pos h) (pos d) q
+  floor-bits x f = rw (held-is x, toZ-pos w32 {n = d} (omega arith), toZ-pos w32 {n = h} (omega arith)) at f

@@ -1,13 +1,9 @@
 -- `quantizer::bin_index` meets its contract, by what `divide` promises and the law of bins. Assumes nothing.
-use mathlib.Core.Path.{_≡_, sym, ap, _∙_}
+use mathlib.Core.Path.{sym, _∙_}
 use Prim.Native.Nat.{_-_, _/_}
 use native.Mathlib.Omega.{arith}
 use borrow.Author.Needs.{needs, sfits-of}
-use lib.IntN.{ℤ}
-use mir.Facts.{toZ-ofZ}
-use mir.Syntax.{w32}
-use mir.Val.{toZ, ofZ}
-use Rattle.quantizer.specs.Bins.{binIndex}
+use Rattle.mathematics.proofs.Held.{held-is}
 use Rattle.quantizer.specs.Bins.Law.{bin-zero}
 use Rattle.quantizer.proofs.Bins.{floor-bin}
 use Rattle.quantizer.proofs.Division.{divisor-bits, floor-bits}
@@ -16,12 +12,10 @@ use Rattle.quantizer.proofs.bin_index.Tie as tie
 
 returns-2 : tie.Need-returns-2
 returns-2 c =
-    let a = c .before .before .args in
-    let read : toZ w32 (ofZ w32 (a .value)) ≡ a .value = search (toZ-ofZ, sfits-of) in
-    let n = a .bin in
-    toZ-ofZ {w = w32} (sfits-of (c .divide .ok))
-    ∙ floor-bin _ n _ (omega arith) (floor-bits n ((n - 1) / 2) (omega arith) (omega arith) (omega arith) (toZ w32 (ofZ w32 (a .value))) (c .divide .ensures))
-    ∙ ap (λ (z : ℤ). binIndex z n) read
+    let s = c .before .before in
+    let n = s .args .bin in
+    held-is (sfits-of (c .divide .ok))
+    ∙ floor-bin (s .args .value) n _ (omega arith) (floor-bits n ((n - 1) / 2) (omega arith) (omega arith) (omega arith) (s .fits .value) (c .divide .ensures))
 
 returns : tie.Need-returns
 returns c = sym (rw (c .if1 .taken) (bin-zero _))

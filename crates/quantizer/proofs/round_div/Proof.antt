@@ -1,13 +1,9 @@
 -- `quantizer::round_div` meets its contract, by what `divide` promises and the law of rounding. Assumes nothing.
-use mathlib.Core.Path.{_≡_, sym, ap, _∙_}
+use mathlib.Core.Path.{sym, _∙_}
 use Prim.Native.Nat.{_/_}
 use native.Mathlib.Omega.{arith}
 use borrow.Author.Needs.{needs, sfits-of}
-use lib.IntN.{ℤ}
-use mir.Facts.{toZ-ofZ}
-use mir.Syntax.{w32}
-use mir.Val.{toZ, ofZ}
-use Rattle.quantizer.specs.Rounding.{roundDiv}
+use Rattle.mathematics.proofs.Held.{held-is}
 use Rattle.quantizer.specs.Rounding.Law.{round-zero}
 use Rattle.quantizer.proofs.Rounding.{floor-round}
 use Rattle.quantizer.proofs.Division.{divisor-bits, floor-bits}
@@ -16,12 +12,10 @@ use Rattle.quantizer.proofs.round_div.Tie as tie
 
 returns-2 : tie.Need-returns-2
 returns-2 c =
-    let a = c .before .before .args in
-    let read : toZ w32 (ofZ w32 (a .sum)) ≡ a .sum = search (toZ-ofZ, sfits-of) in
-    let d = a .divisor in
-    toZ-ofZ {w = w32} (sfits-of (c .divide .ok))
-    ∙ floor-round _ d _ (omega arith) (floor-bits d (d / 2) (omega arith) (omega arith) (omega arith) (toZ w32 (ofZ w32 (a .sum))) (c .divide .ensures))
-    ∙ ap (λ (z : ℤ). roundDiv z d) read
+    let s = c .before .before in
+    let d = s .args .divisor in
+    held-is (sfits-of (c .divide .ok))
+    ∙ floor-round (s .args .sum) d _ (omega arith) (floor-bits d (d / 2) (omega arith) (omega arith) (omega arith) (s .fits .sum) (c .divide .ensures))
 
 returns : tie.Need-returns
 returns c = sym (rw (c .if1 .taken) (round-zero _))

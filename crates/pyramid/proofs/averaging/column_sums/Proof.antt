@@ -9,8 +9,8 @@ use Rattle.mathematics.proofs.Filling.{Filling, filling-start, filling-next, fi
 use Rattle.pyramid.specs.Weights.{weight}
 use Rattle.pyramid.specs.Edge.{reflect}
 use Rattle.pyramid.specs.Rows.{asLevel, columnSum, Within}
-use Rattle.pyramid.proofs.TapSums.{within-more}
-use Rattle.pyramid.proofs.ColumnSums.{within-held, column-formed}
+use Rattle.pyramid.proofs.TapSums.{within-more, within-held}
+use Rattle.pyramid.proofs.ColumnSums.{column-formed}
 use mathlib.Core.Path.{sym, ap, _∙_}
 use native.Mathlib.Nat.{add-zero}
 use borrow.Author.Needs.{needs, sfits-of}

@@ -15,8 +15,9 @@ use Rattle.mathematics.proofs.Filling.{Filling, filling-start, filling-next, fi
 use Rattle.quantizer.specs.Rounding.{roundDiv}
 use Rattle.pyramid.specs.Weights.{weight}
 use Rattle.pyramid.specs.Edge.{reflect}
-use Rattle.pyramid.specs.Rows.{Within}
-use Rattle.pyramid.proofs.ColumnSums.{within-held, node-formed}
+use Rattle.pyramid.specs.Rows.{Within, Small}
+use Rattle.pyramid.proofs.TapSums.{within-held}
+use Rattle.pyramid.proofs.ColumnSums.{node-formed}
 use Rattle.pyramid.proofs.averaging.reduce_along.Statement.{statement}
 use Rattle.pyramid.proofs.averaging.reduce_along.Tie as tie
 
@@ -52,8 +53,9 @@ module _ (w : tie.After-weight-at3 Inv-loop μ-loop) where
   abbrev sums : List ℤ
   sums = now (s .args .sums)
 
-  weighed : (Within 12 (held (w .before .before .weight-at .result))) × (Within 12 (held (w .before .weight-at2 .result))) × (Within 12 (held (w .weight-at3 .result)))
-  weighed = (within-held tt (w .before .before .weight-at .ensures .1), within-held tt (w .before .weight-at2 .ensures .1), within-held tt (w .weight-at3 .ensures .1))
+  -- the weights, as they are passed on, and the sums
+  asked : ((Within 12 (held (w .before .before .weight-at .result))) × (Within 12 (held (w .before .weight-at2 .result))) × (Within 12 (held (w .weight-at3 .result)))) × Small 8388608 sums
+  asked = ((within-held tt (w .before .before .weight-at .ensures .1), within-held tt (w .before .weight-at2 .ensures .1), within-held tt (w .weight-at3 .ensures .1)), s .pre .1 .1)
 
   -- a node whose taps lie at y
   formed : (y : ℕ → ℕ) {a b c d e : ℕ} → a ≡ y 0 → b ≡ y 1 → c ≡ y 2 → d ≡ y 3 → e ≡ y 4
@@ -97,7 +99,7 @@ weight-at-requires-3 : tie.Need-weight-at-requires-3 Inv-loop μ-loop
 weight-at-requires-3 c κs = search needs
 
 reduce-node-requires : tie.Need-reduce-node-requires Inv-loop μ-loop
-reduce-node-requires c κs = ((omega arith, omega arith, omega arith, omega arith, omega arith), (weighed c, s c .pre .1 .1))
+reduce-node-requires c κs = ((omega arith, omega arith, omega arith, omega arith, omega arith), asked c)
 
 mul-work : tie.Need-mul-work Inv-loop μ-loop
 mul-work c = search needs
@@ -130,7 +132,7 @@ add-reduce-node-4 : tie.Need-add-reduce-node-4 Inv-loop μ-loop
 add-reduce-node-4 c = search needs
 
 reduce-node-requires-2 : tie.Need-reduce-node-requires-2 Inv-loop μ-loop
-reduce-node-requires-2 c κs = let w = c .before .before .before in ((omega arith, omega arith, omega arith, omega arith, omega arith), (weighed w, s w .pre .1 .1))
+reduce-node-requires-2 c κs = ((omega arith, omega arith, omega arith, omega arith, omega arith), asked (c .before .before .before))
 
 add-t22 : tie.Need-add-t22 Inv-loop μ-loop
 add-t22 c = search needs
@@ -174,7 +176,7 @@ sub-reduce-node-4 : tie.Need-sub-reduce-node-4 Inv-loop μ-loop
 sub-reduce-node-4 c = search needs
 
 reduce-node-requires-3 : tie.Need-reduce-node-requires-3 Inv-loop μ-loop
-reduce-node-requires-3 c κs = let w = c .before .before .before in ((omega arith, omega arith, omega arith, omega arith, omega arith), (weighed w, s w .pre .1 .1))
+reduce-node-requires-3 c κs = ((omega arith, omega arith, omega arith, omega arith, omega arith), asked (c .before .before .before))
 
 add-t28 : tie.Need-add-t28 Inv-loop μ-loop
 add-t28 c = search needs

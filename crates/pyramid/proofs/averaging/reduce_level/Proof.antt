@@ -14,7 +14,7 @@ use Rattle.quantizer.specs.Rounding.{roundDiv}
 use Rattle.mathematics.specs.Splices.{splice, part}
 use Rattle.mathematics.specs.Tables.{tabulate}
 use Rattle.mathematics.proofs.Tables.{length-tabulate, tabulate-same}
-use Rattle.mathematics.proofs.Splices.{length-part, length-splice}
+use Rattle.mathematics.proofs.Splices.{part-long, length-splice}
 use Rattle.pyramid.specs.Sizes.{Level}
 use Rattle.pyramid.specs.Weights.{weight}
 use Rattle.pyramid.specs.Edge.{reflect}
@@ -63,7 +63,7 @@ module _ (l : tie.At-loop Inv-loop μ-loop) where
     high = level .high;
     wide-most = level .wide-most;
     high-most = level .high-most;
-    filled = length-part (s .args .from) (s .args .from + s .args .rows * s .args .columns) (l .loop .work) (omega arith) (omega (arith, level .fits, l .loop .inv .rendered .long)) ∙ omega arith;
+    filled = part-long (s .args .from) (s .args .rows * s .args .columns) (l .loop .work) (omega (arith, level .fits, l .loop .inv .rendered .long));
     small = rw kept (level .small);
   }
 

@@ -4,7 +4,8 @@ use lib.IntN.{ℤ}
 use borrow.Author.Needs.{needs, sfits-of}
 use Rattle.mathematics.proofs.Held.{held-is}
 use Rattle.quantizer.specs.Rounding.{roundDiv}
-use Rattle.pyramid.proofs.ColumnSums.{within-held, five-unheld}
+use Rattle.pyramid.proofs.TapSums.{within-held}
+use Rattle.pyramid.proofs.ColumnSums.{five-unheld}
 use Rattle.pyramid.proofs.averaging.reduce_node.Statement.{statement}
 use Rattle.pyramid.proofs.averaging.reduce_node.Tie as tie
 

@@ -1,13 +1,13 @@
 -- `pyramid::checking::bins_ok` meets its contract. The loop's invariant: the slots below l hold what they may. The measure is the number of
 -- slots left. Assumes nothing.
-use mathlib.Core.Path.{_≡_, refl, sym, _∙_}
+use mathlib.Core.Path.{_≡_, sym, _∙_}
 use mathlib.Core.Bool.{true}
 use Prim.Native.Nat.{_≤_, _-_}
 use native.Mathlib.Omega.{arith}
 use borrow.Author.Needs.{needs}
 use borrow.Author.Tests.{not-true, not-false}
 use Rattle.mathematics.specs.Tests.{allBelow}
-use Rattle.mathematics.proofs.Tests.{below-next, below-fails}
+use Rattle.mathematics.proofs.Tests.{below-none, below-next, below-fails}
 use Rattle.pyramid.specs.Settings.{binsOk}
 use Rattle.pyramid.proofs.SettingsTests.{slot}
 use Rattle.pyramid.proofs.checking.bins_ok.Statement.{statement}
@@ -20,8 +20,7 @@ abbrev μ-loop : tie.MeasureT-loop
 μ-loop s bins l₀ l = 7 - l
 
 loop-holds : tie.Need-loop-holds Inv-loop μ-loop
-unfolding allBelow
-loop-holds c = (omega arith, refl)
+loop-holds c = (omega arith, below-none _)
 
 cast-slot-ok : tie.Need-cast-slot-ok Inv-loop μ-loop
 cast-slot-ok c = search needs

@@ -10,8 +10,8 @@ use denote.Ref.{now}
 use Rattle.mathematics.proofs.Filling.{Filling, filling-start, filling-next, filling-on, filling-from}
 use Rattle.mathematics.proofs.Held.{held}
 use Rattle.pyramid.specs.Edge.{reflect}
-use Rattle.pyramid.proofs.TapSums.{Weight}
-use Rattle.pyramid.proofs.ColumnSums.{within-held}
+use Rattle.pyramid.specs.Rows.{Small}
+use Rattle.pyramid.proofs.TapSums.{within-held, Weight}
 use Rattle.pyramid.proofs.ExpandTaps.{node, even-node, odd-node}
 use Rattle.pyramid.proofs.expanding.expand_along.Statement.{statement}
 use Rattle.pyramid.proofs.expanding.expand_along.Tie as tie
@@ -22,12 +22,16 @@ Inv-loop sums last kernel row₀ w0 w1 w2 a₀ row a = Filling 0 (2 * last + 1) 
 abbrev μ-loop : tie.MeasureT-loop
 μ-loop sums last kernel row₀ w0 w1 w2 a₀ row a = last - a
 
--- the weights, as they are passed on
-even-weights : (c : tie.After-weight-at3 Inv-loop μ-loop) → Weight (held (c .weight-at3 .result)) × Weight (held (c .before .before .weight-at .result))
-even-weights c = (within-held tt (c .weight-at3 .ensures .1), within-held tt (c .before .before .weight-at .ensures .1))
+-- the weights, as they are passed on, and the sums
+module _ (c : tie.After-weight-at3 Inv-loop μ-loop) where
+  abbrev Summed : Type 0
+  Summed = Small 8388608 (now (c .before .before .before .args .sums))
 
-odd-weights : (c : tie.After-weight-at3 Inv-loop μ-loop) → Weight (held (c .before .weight-at2 .result)) × Weight (pos 0)
-odd-weights c = (within-held tt (c .before .weight-at2 .ensures .1), record { small = omega arith })
+  even-asked : (Weight (held (c .weight-at3 .result)) × Weight (held (c .before .before .weight-at .result))) × Summed
+  even-asked = ((within-held tt (c .weight-at3 .ensures .1), within-held tt (c .before .before .weight-at .ensures .1)), c .before .before .before .pre .1 .1)
+
+  odd-asked : (Weight (held (c .before .weight-at2 .result)) × Weight (pos 0)) × Summed
+  odd-asked = ((within-held tt (c .before .weight-at2 .ensures .1), record { small = omega arith }), c .before .before .before .pre .1 .1)
 
 -- ---- what is written, node by node
 
@@ -105,13 +109,13 @@ weight-at-requires-3 : tie.Need-weight-at-requires-3 Inv-loop μ-loop
 weight-at-requires-3 c κs = search needs
 
 expand-node-requires : tie.Need-expand-node-requires Inv-loop μ-loop
-expand-node-requires c κs = (omega arith, (even-weights c, c .before .before .before .pre .1 .1))
+expand-node-requires c κs = (omega arith, even-asked c)
 
 slice-set-from-row : tie.Need-slice-set-from-row Inv-loop μ-loop
 slice-set-from-row c = search needs
 
 expand-node-requires-2 : tie.Need-expand-node-requires-2 Inv-loop μ-loop
-expand-node-requires-2 c κs = (omega arith, (odd-weights (c .before), c .before .before .before .before .pre .1 .1))
+expand-node-requires-2 c κs = (omega arith, odd-asked (c .before))
 
 slice-set-from-row-2 : tie.Need-slice-set-from-row-2 Inv-loop μ-loop
 slice-set-from-row-2 c = omega (arith, first (c .before) .long)
@@ -126,9 +130,7 @@ add-expand-node : tie.Need-add-expand-node Inv-loop μ-loop
 add-expand-node c = search needs
 
 expand-node-requires-3 : tie.Need-expand-node-requires-3 Inv-loop μ-loop
-expand-node-requires-3 c κs =
-    let w = c .before .before .before .before in
-    (omega arith, (even-weights w, w .before .before .before .pre .1 .1))
+expand-node-requires-3 c κs = (omega arith, even-asked (c .before .before .before .before))
 
 mul-row : tie.Need-mul-row Inv-loop μ-loop
 mul-row c = search needs
@@ -143,9 +145,7 @@ add-expand-node-2 : tie.Need-add-expand-node-2 Inv-loop μ-loop
 add-expand-node-2 c = search needs
 
 expand-node-requires-4 : tie.Need-expand-node-requires-4 Inv-loop μ-loop
-expand-node-requires-4 c κs =
-    let w = c .before .before .before .before .before in
-    (omega arith, (odd-weights w, w .before .before .before .pre .1 .1))
+expand-node-requires-4 c κs = (omega arith, odd-asked (c .before .before .before .before .before))
 
 mul-t16 : tie.Need-mul-t16 Inv-loop μ-loop
 mul-t16 c = search needs
@@ -178,9 +178,7 @@ sub-expand-node-3 : tie.Need-sub-expand-node-3 Inv-loop μ-loop
 sub-expand-node-3 c = search needs
 
 expand-node-requires-5 : tie.Need-expand-node-requires-5 Inv-loop μ-loop
-expand-node-requires-5 c κs =
-    let w = c .before .before .before .before in
-    (omega arith, (even-weights w, w .before .before .before .pre .1 .1))
+expand-node-requires-5 c κs = (omega arith, even-asked (c .before .before .before .before))
 
 mul-t22 : tie.Need-mul-t22 Inv-loop μ-loop
 mul-t22 c = search needs

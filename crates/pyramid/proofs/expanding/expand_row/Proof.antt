@@ -16,7 +16,7 @@ use Rattle.pyramid.proofs.expanding.expand_row.Statement.{statement}
 use Rattle.pyramid.proofs.expanding.expand_row.Tie as tie
 
 -- the local array, once it holds the sums
-summed : (c : tie.After-expand-sums) → c .expand-sums .last .1 .1 .1 .1 .1 .0 ≡ sums (c .before .before .pre .0) (c .before .before .pre .1 .0) (c .before .before .pre .1 .1 .2) (c .before .before .args .j)
+summed : (c : tie.After-expand-sums) → c .expand-sums .last .1 .1 .1 .1 .1 .0 ≡ sums (c .before .before .pre .0) (c .before .before .pre .1 .0) (c .before .before .args .j)
 summed c = c .expand-sums .ensures
 
 slice-aggregate-expand-sums : tie.Need-slice-aggregate-expand-sums
@@ -35,7 +35,7 @@ expand-along-requires : tie.Need-expand-along-requires
 expand-along-requires c κs =
     let e = c .before .before .before in
     let s = e .before .before in
-    (s .pre .0, (omega (arith, e .expand-sums .kept .1 .1 .1 .1 .1 .0, s .pre .1), rw (summed e) (sums-small (s .pre .0) (s .pre .1 .0) (s .pre .1 .1 .2) (s .args .j))))
+    (s .pre .0, (omega (arith, e .expand-sums .kept .1 .1 .1 .1 .1 .0, s .pre .1), rw (summed e) (sums-small (s .pre .0) (s .pre .1 .0) (s .args .j))))
 
 same-length : tie.Need-same-length
 same-length c = search needs
@@ -48,7 +48,7 @@ returns c =
     c .before .expand-along .ensures
     ∙ ap (λ (xs : List ℤ). splice 0 xs (now (a .row)))
     (tabulate-same (2 * (a .columns - 1) + 1) _ (λ i. expand (a .kernel) (a .columns - 1) (a .rows - 1) (asLevel (a .columns) (now (a .src))) i (a .j))
-    (λ i l. ap (λ (m : List ℤ). node (a .kernel) (a .columns - 1) m i) (summed e) ∙ node-expanded (s .pre .0) (s .pre .1 .0) (s .pre .1 .1 .2) (a .j) i l))
+    (λ i l. ap (λ (m : List ℤ). node (a .kernel) (a .columns - 1) m i) (summed e) ∙ node-expanded (s .pre .0) (s .pre .1 .0) (a .j) i l))
 
 pub expand-row-spec : {M : Type 1} → statement M
 expand-row-spec =

@@ -10,7 +10,7 @@ use Rattle.mathematics.specs.Tables.{tabulate}
 use Rattle.mathematics.specs.Splices.{splice}
 use Rattle.pyramid.specs.Rows.{asLevel, columnSum}
 use Rattle.pyramid.specs.Edge.{reflect}
-use Rattle.pyramid.proofs.ColumnSums.{within-held}
+use Rattle.pyramid.proofs.TapSums.{within-held}
 use Rattle.pyramid.proofs.ExpandTaps.{even-formed, odd-formed}
 use Rattle.pyramid.proofs.Buffers.{source-row}
 use Rattle.pyramid.proofs.expanding.expand_sums.Statement.{statement}

@@ -10,7 +10,7 @@ use borrow.Author.Needs.{needs, sfits-of}
 use denote.Ref.{now}
 use Rattle.mathematics.proofs.Held.{held, held-is}
 use Rattle.mathematics.proofs.Filling.{Filling, filling-start, filling-next, filling-end}
-use Rattle.pyramid.proofs.TapSums.{Value, weight-fits, within-more}
+use Rattle.pyramid.proofs.TapSums.{within-more, within-fits, Value}
 use Rattle.pyramid.proofs.ExpandTaps.{weighed, three-asked, values-passed}
 use Rattle.pyramid.proofs.expanding.weigh_rows.Statement.{statement}
 use Rattle.pyramid.proofs.expanding.weigh_rows.Tie as tie
@@ -87,7 +87,7 @@ same-length c = search needs
 returns : tie.Need-returns Inv-loop μ-loop
 returns c =
     let h = c .before .before .pre .1 .0 in
-    rw (held-is (weight-fits _ (h .0)), held-is (weight-fits _ (h .1))) at (filling-end (c .before .loop .inv) (c .loop-test .left))
+    rw (held-is (within-fits tt (h .0)), held-is (within-fits tt (h .1))) at (filling-end (c .before .loop .inv) (c .loop-test .left))
 
 pub weigh-rows-spec : {M : Type 1} → statement M
 weigh-rows-spec =

@@ -1,6 +1,5 @@
 -- `pyramid::layering::average_level` meets its contract, by what `reduce_level` promises. Assumes nothing.
 use mathlib.Core.Path.{_∙_}
-use Prim.Native.Nat.{_-_}
 use denote.Ref.{now}
 use borrow.Author.Needs.{needs}
 use Rattle.pyramid.proofs.LevelSteps.{reducible, reduce-placed}
