@@ -15,7 +15,7 @@ use Rattle.mathematics.specs.Splices.{splice, part}
 use Rattle.mathematics.specs.Tables.{tabulate}
 use Rattle.mathematics.proofs.Held.{short, short-is}
 use Rattle.mathematics.proofs.Tables.{tabulate-same, tabulate-map}
-use Rattle.mathematics.proofs.Splices.{length-splice, length-part, splice-nil, splice-append, splice-front}
+use Rattle.mathematics.proofs.Splices.{length-splice, part-long, splice-nil, splice-append, splice-front}
 use Rattle.pyramid.specs.declared.Settings.{Settings}
 use Rattle.pyramid.specs.Settings.{bin}
 use Rattle.pyramid.specs.Sizes.{nodesAt, total}
@@ -116,9 +116,6 @@ module _ (at : ℕ) (ms : List ℤ) (l : List ℕ) where
       record { bound = omega arith; long = long; is = is }
 
 -- ---- the sections of a level and of those below it, whose indices stand from a place on
-
-pub part-long : (from k : ℕ) (ms : List ℤ) → from + k ≤ length ms → length (part from (from + k) ms) ≡ k
-part-long from k ms h = length-part from (from + k) ms (omega arith) h ∙ omega arith
 
 module _ (s : Settings) (ms : List ℤ) where
   sections-zero : (l : ℕ) → l ≡ 0 → levelSection (take (nodesAt s l) ms) ≡ levelSections s l ms

@@ -1,7 +1,7 @@
 -- Laws of probe readings: the tests of a percentage, of a fault code and of a kind and its number, the two answers, and that a reading is
 -- its kind and number. Assumes nothing.
 use mathlib.Core.Path.{_≡_, refl, sym, ap, _∙_, subst}
-use mathlib.Core.Bool.{Bool, true, false, not, _&&_}
+use mathlib.Core.Bool.{Bool, true, false, not, _&&_, and-false, false≢true}
 use Prim.Native.Nat.{ℕ, zero, suc, _*_, _%_, _≤_, _<_}
 use native.Mathlib.Decide.{decLt}
 use native.Mathlib.Nat.{mod-eq-of-lt, lt-of-not-le, le-of-suc-le-suc}
@@ -9,7 +9,8 @@ use native.Mathlib.Omega.{arith}
 use borrow.Author.Tests.{ne-eqb, eq-eqb, lt-ltb, le-ltb, le-leb, lt-leb, eqb-true}
 use lib.Dec.{T, ltb, leb, eqb}
 use lib.Ieee.{Float, nan, inf, fin, binary32, le, lt, eq, isNan, nanBits, toBits, ofBits}
-use lib.Ieee.Bits.{nanBits-above, nanBits-is, toBits-ofBits, ofBits-toBits, toBits-lt}
+use lib.Ieee.Bits.{is-true, nanBits-above, nanBits-is, toBits-ofBits, ofBits-toBits, toBits-lt}
+use Rattle.mathematics.proofs.Tests.{both}
 use Rattle.pyramid.proofs.Refusals.{unless-passes, unless-fails, leaves-new, leaves-kept}
 use Rattle.bale.specs.declared.Reading.{Reading}
 use Rattle.bale.specs.declared.Reading.the-variants.{NotFitted, Percentage, Fault}
@@ -34,8 +35,8 @@ le-no-nan (fin s m k) y e = tt
 nan-not-le : (x y : Float) → isNan x ≡ true → le x y ≡ false
 unfolding le lt eq isNan
 nan-not-le nan y e = refl
-nan-not-le (inf s) y e = let z : _≡_ {A = Bool} false true = e in cc
-nan-not-le (fin s m k) y e = let z : _≡_ {A = Bool} false true = e in cc
+nan-not-le (inf s) y e = absurd (false≢true e)
+nan-not-le (fin s m k) y e = absurd (false≢true e)
 
 -- bits up to those of +infinity are no NaN's
 pub no-nan-bits : (n : ℕ) → n ≤ 0x7F80_0000 → T (not (nanBits binary32 n))
@@ -46,40 +47,22 @@ no-nan-bits n h =
 
 -- ---- the tests of a percentage and of a fault code
 
-and-true : {a b : Bool} → a ≡ true → b ≡ true → (a && b) ≡ true
-and-true p q = rw (p, q)
-
-and-left : {a : Bool} (b : Bool) → a ≡ false → (a && b) ≡ false
-and-left b p = rw p
-
-and-right : (a : Bool) {b : Bool} → b ≡ false → (a && b) ≡ false
-and-right true p = p
-and-right false p = refl
-
-and-second : (a b : Bool) → (a && b) ≡ true → b ≡ true
-and-second true b e = e
-and-second false b e = let z : _≡_ {A = Bool} false true = e in cc
-
-holds : (b : Bool) → T b → b ≡ true
-holds true t = refl
-holds false t = absurd t
-
 module _ (bits : ℕ) (x : Float) where
   percentage-yes : bits < 0x8000_0000 → le x hundred ≡ true → percentageOk bits x ≡ true
   unfolding percentageOk
-  percentage-yes h e = and-true (lt-ltb _ _ h) e
+  percentage-yes h e = rw (lt-ltb _ _ h, e)
 
   percentage-signed : 0x8000_0000 ≤ bits → percentageOk bits x ≡ false
   unfolding percentageOk
-  percentage-signed h = and-left _ (le-ltb _ _ h)
+  percentage-signed h = rw (le-ltb _ _ h)
 
   percentage-above : le x hundred ≡ false → percentageOk bits x ≡ false
   unfolding percentageOk
-  percentage-above e = and-right (ltb bits 0x8000_0000) e
+  percentage-above e = rw e (and-false (ltb bits 0x8000_0000))
 
   percentage-most : percentageOk bits x ≡ true → le x hundred ≡ true
   unfolding percentageOk
-  percentage-most e = and-second (ltb bits 0x8000_0000) (le x hundred) e
+  percentage-most e = is-true (le x hundred) (both (ltb bits 0x8000_0000) (le x hundred) (rw e tt) .1)
 
 module _ (n : ℕ) where
   -- bits above those of +infinity are a NaN's, or have the sign bit set
@@ -95,15 +78,15 @@ module _ (n : ℕ) where
 
   fault-yes : 1 ≤ n → n ≤ 255 → faultOk n ≡ true
   unfolding faultOk
-  fault-yes h l = and-true (le-leb _ _ h) (le-leb _ _ l)
+  fault-yes h l = rw (le-leb _ _ h, le-leb _ _ l)
 
   fault-low : n < 1 → faultOk n ≡ false
   unfolding faultOk
-  fault-low h = and-left _ (lt-leb _ _ h)
+  fault-low h = rw (lt-leb _ _ h)
 
   fault-high : 255 < n → faultOk n ≡ false
   unfolding faultOk
-  fault-high h = and-right (leb 1 n) (lt-leb _ _ h)
+  fault-high h = rw (lt-leb n 255 h) (and-false (leb 1 n))
 
 -- ---- the code of a reading
 
@@ -119,7 +102,7 @@ unfolding codeOf
 code-no r e = rw (unless-fails 4 e, leaves-kept 4 (kindOf r) 0 (λ z. omega (arith, z)), leaves-kept 4 (numberOf r) 0 (λ z. omega (arith, z)))
 
 pub code-lawful : (r : Reading) → T (readingOk r) → codeOf r ≡ record { refusal = 0; kind = kindOf r; number = numberOf r }
-code-lawful r t = sym (code-yes r (holds (readingOk r) t))
+code-lawful r t = sym (code-yes r (is-true (readingOk r) t))
 
 pub code-none : {r : Reading} → r ≡ NotFitted → record { refusal = 0; kind = 0; number = 0 } ≡ codeOf r
 code-none p = code-yes NotFitted refl ∙ sym (ap codeOf p)
@@ -155,7 +138,7 @@ code-tells {code} r e = pick (readingOk r) refl
 module _ (note : Note) {first : Code} (f : first ≡ codeOf (note .«before_drier»)) where
   pub note-first : (first .refusal ≡ 0 → ⊥) → false ≡ noteOk note
   unfolding noteOk
-  note-first h = sym (and-left _ (sym (code-tells (note .«before_drier») f) ∙ ne-eqb _ _ h))
+  note-first h = rw (sym (code-tells (note .«before_drier») f) ∙ ne-eqb _ _ h)
 
   pub note-second : {second : Code} → first .refusal ≡ 0 → second ≡ codeOf (note .«at_press») → eqb (second .refusal) 0 ≡ noteOk note
   unfolding noteOk
@@ -244,7 +227,7 @@ reading-back (Fault code) h = refl
 
 pub decode-code : (r : Reading) → HeldReading r → T (readingOk r) → decode (kindOf r) (numberOf r) ≡ record { refusal = 0; reading = r }
 decode-code r h t =
-    sym (decode-yes (kindOf r) (numberOf r) (coded-of r h (holds (readingOk r) t))) ∙ ap (λ (x : Reading). record { refusal = 0; reading = x }) (reading-back r h)
+    sym (decode-yes (kindOf r) (numberOf r) (coded-of r h (is-true (readingOk r) t))) ∙ ap (λ (x : Reading). record { refusal = 0; reading = x }) (reading-back r h)
 
 abbrev Again : ℕ → ℕ → Reading → Type 0
 Again k n r = T (readingOk r) × (kindOf r ≡ k) × (numberOf r ≡ n)

@@ -2,6 +2,7 @@
 use crate::FileSize;
 use crate::Note;
 use crate::finding;
+use crate::places;
 use crate::probes;
 use crate::words;
 use pyramid::IndexRange;
@@ -100,7 +101,7 @@ fn bins_section_refusal(file: &[u8], s: Settings) -> u16
     requires { ⌜ Shaped s ⌝ }
     ensures { λ r. ⌜ r ≡ binsSectionRefusal (now (file .entry)) ⌝ }
 {
-    let refusal = section_refusal(file, 10, s.depth + 1, 2);
+    let refusal = section_refusal(file, places::BINS, s.depth + 1, 2);
     if refusal != 0 {
         return refusal;
     }
@@ -110,7 +111,7 @@ fn bins_section_refusal(file: &[u8], s: Settings) -> u16
 fn readings_section_refusal(file: &[u8], depth: u16) -> u16
     ensures { λ r. ⌜ r ≡ readingsSectionRefusal (now (file .entry)) depth ⌝ }
 {
-    let at = 14 + 2 * depth as usize;
+    let at = places::readings(depth);
     let refusal = section_refusal(file, at, 2, 5);
     if refusal != 0 {
         return refusal;
@@ -188,7 +189,7 @@ fn body_refusal(file: &[u8], s: Settings) -> u16
     if readings != 0 {
         return readings;
     }
-    level_sections_refusal(file, s, s.depth, 26 + 2 * s.depth as usize)
+    level_sections_refusal(file, s, s.depth, places::levels(s.depth))
 }
 
 // What the reader looks for that is lent a level buffer of so many places.

@@ -1,5 +1,6 @@
 // The indices of a file that is accepted, into the level buffer.
 use crate::checking;
+use crate::places;
 use crate::words;
 use pyramid::Settings;
 ghost use mathlib.Core.Path.{_≡_};
@@ -43,5 +44,5 @@ pub fn fill(file: &[u8], s: Settings, levels: &mut [i16])
     requires { ⌜ readRefusal (now file) (length (now levels)) ≡ 0 ⌝ }
     ensures { λ _. ⌜ now (levels .exit) ≡ levelsIn (now (file .entry)) ⌝ }
 {
-    fill_levels(file, s, s.depth, 26 + 2 * s.depth as usize, levels, 0);
+    fill_levels(file, s, s.depth, places::levels(s.depth), levels, 0);
 }

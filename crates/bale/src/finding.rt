@@ -3,6 +3,7 @@ use crate::Bale;
 use crate::Note;
 use crate::Probe;
 use crate::Reading;
+use crate::places;
 use crate::probes;
 use crate::words;
 use pyramid::Settings;
@@ -16,7 +17,7 @@ fn slot_in(file: &[u8], depth: u16, level: u16) -> u16
     ensures { λ r. ⌜ (r ≡ slotIn (now (file .entry)) depth level) × (r < 65536) ⌝ }
 {
     if level <= depth {
-        return words::u16_at(file, 12 + 2 * (depth - level) as usize);
+        return words::u16_at(file, places::BINS + 2 + 2 * (depth - level) as usize);
     }
     0
 }
@@ -62,7 +63,7 @@ pub fn probe_at(file: &[u8], at: usize) -> Probe
 fn note_in(file: &[u8], depth: u16) -> Note
     ensures { λ r. ⌜ r ≡ noteIn (now (file .entry)) depth ⌝ }
 {
-    let at = 14 + 2 * depth as usize;
+    let at = places::readings(depth);
     let first = probe_at(file, at + 2);
     let second = probe_at(file, at + 7);
     let drier = first.reading;

@@ -7,6 +7,7 @@ ghost use Rattle.bale.specs.Calls.{sizeAnswer, writing, checking, readin
 mod checking;
 mod filling;
 mod finding;
+mod places;
 mod probes;
 mod putting;
 mod words;

@@ -2,6 +2,7 @@
 use crate::Note;
 use crate::Reading;
 use crate::checking;
+use crate::places;
 use crate::probes;
 use crate::words;
 use pyramid::Settings;
@@ -123,9 +124,8 @@ pub fn put_file(s: Settings, note: Note, levels: &[i16], file: &mut [u8])
     requires { ⌜ writeRefusal s note (now levels) (length (now file)) ≡ 0 ⌝ }
     ensures { λ _. ⌜ now (file .exit) ≡ fileOf s note (now (levels .entry)) ++ drop (fileSize s) (now (file .entry)) ⌝ }
 {
-    let depth = s.depth as usize;
     put_shape(s, file);
-    put_bins(s, file, 10);
-    put_readings(note, file, 14 + 2 * depth);
-    put_levels(s, s.depth, levels, 0, file, 26 + 2 * depth);
+    put_bins(s, file, places::BINS);
+    put_readings(note, file, places::readings(s.depth));
+    put_levels(s, s.depth, levels, 0, file, places::levels(s.depth));
 }

@@ -16,7 +16,8 @@ use Rattle.pyramid.specs.Sizes.{Level, columnsAt, rowsAt, nodesAt, total
 use Rattle.pyramid.specs.Buffers.{levelRaster, stack, start, readLevels}
 use Rattle.pyramid.specs.Rebuilding.{valueOf}
 use Rattle.pyramid.specs.Refusals.{limit, indexOk, valuesOk}
-use Rattle.pyramid.proofs.LevelParts.{start-top, start-below, level-part, map-raster, all-map, all-joined}
+use Rattle.mathematics.proofs.Tests.{all-map, all-joined}
+use Rattle.pyramid.proofs.LevelParts.{start-top, start-below, level-part, map-raster}
 
 -- the indices of levels l to 0, level l first
 unfoldable pub checked : Settings → ℕ → List ℤ → Bool

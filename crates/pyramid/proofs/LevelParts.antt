@@ -14,7 +14,7 @@ use Rattle.mathematics.specs.Tables.{tabulate}
 use Rattle.mathematics.specs.Splices.{part}
 use Rattle.mathematics.proofs.Tables.{map-tabulate}
 use Rattle.mathematics.proofs.Splices.{part-long, getD-part}
-pub use Rattle.mathematics.proofs.Tests.{all-map, all-joined}
+use Rattle.mathematics.proofs.Tests.{all-joined}
 use Rattle.pyramid.specs.declared.Settings.{Settings}
 use Rattle.pyramid.specs.Sizes.{Level, columnsAt, rowsAt, nodesAt, nodesTo, total}
 use Rattle.pyramid.specs.Buffers.{raster, levelRaster, stack, start, readLevels}

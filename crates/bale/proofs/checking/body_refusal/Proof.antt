@@ -26,14 +26,8 @@ returns-2 c =
     answers-stop _ (readings .readings-section-refusal .ensures ∙ rw (depth-in _ _ (bins .before .before .pre .0))) (c .if2 .taken)
     ∙ answers-skip _ (bins .bins-section-refusal .ensures) (binned .if1 .left)
 
-cast-level-sections-refusal : tie.Need-cast-level-sections-refusal
-cast-level-sections-refusal c = search needs
-
-mul-level-sections-refusal : tie.Need-mul-level-sections-refusal
-mul-level-sections-refusal c = search needs
-
-add-level-sections-refusal : tie.Need-add-level-sections-refusal
-add-level-sections-refusal c = search needs
+levels-requires : tie.Need-levels-requires
+levels-requires c κs = search needs
 
 level-sections-refusal-requires : tie.Need-level-sections-refusal-requires
 level-sections-refusal-requires c κs = search needs
@@ -46,7 +40,7 @@ returns-3 c =
     let binned = readings .before in
     let bins = binned .before in
     let e = bins .before .before .pre .0 in
-    answers-second (readings .readings-section-refusal .ensures ∙ rw (depth-in _ _ e)) (noted .if2 .left) (levels-in _ _ e (c .level-sections-refusal .ensures))
+    answers-second (readings .readings-section-refusal .ensures ∙ rw (depth-in _ _ e)) (noted .if2 .left) (levels-in _ _ e (c .level-sections-refusal .ensures ∙ rw (c .before .levels .ensures)))
     ∙ answers-skip _ (bins .bins-section-refusal .ensures) (binned .if1 .left)
 
 pub body-refusal-spec : {M : Type 1} → statement M
@@ -57,8 +51,6 @@ body-refusal-spec =
     returns
     readings-section-refusal-requires
     returns-2
-    cast-level-sections-refusal
-    mul-level-sections-refusal
-    add-level-sections-refusal
+    levels-requires
     level-sections-refusal-requires
     returns-3)

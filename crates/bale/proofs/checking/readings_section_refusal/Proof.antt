@@ -6,18 +6,15 @@ use Rattle.bale.specs.Reader.{readingsSectionRefusal}
 use Rattle.bale.proofs.checking.readings_section_refusal.Statement.{statement}
 use Rattle.bale.proofs.checking.readings_section_refusal.Tie as tie
 
-mul-at : tie.Need-mul-at
-mul-at c = search needs
-
-add-at : tie.Need-add-at
-add-at c = search needs
+readings-requires : tie.Need-readings-requires
+readings-requires c κs = search needs
 
 section-refusal-requires : tie.Need-section-refusal-requires
 section-refusal-requires c κs = search needs
 
 returns : tie.Need-returns
 unfolding readingsSectionRefusal
-returns c = answers-stop _ (c .before .section-refusal .ensures) (c .if1 .taken)
+returns c = let section = c .before in answers-stop _ (section .section-refusal .ensures ∙ rw (section .before .readings .ensures)) (c .if1 .taken)
 
 add-probe-at : tie.Need-add-probe-at
 add-probe-at c = search needs
@@ -30,7 +27,8 @@ unfolding readingsSectionRefusal
 returns-2 c =
     let drier = c .before .before in
     let whole = drier .before in
-    answers-stop _ (rw (drier .probe-at .ensures)) (c .if2 .taken) ∙ answers-skip _ (whole .before .section-refusal .ensures) (whole .if1 .left)
+    let place = whole .before .before .readings .ensures in
+    answers-stop _ (rw (drier .probe-at .ensures, place)) (c .if2 .taken) ∙ answers-skip _ (whole .before .section-refusal .ensures ∙ rw place) (whole .if1 .left)
 
 add-probe-at-2 : tie.Need-add-probe-at-2
 add-probe-at-2 c = search needs
@@ -43,15 +41,15 @@ unfolding readingsSectionRefusal
 returns-3 c =
     let drier = c .before .before .before in
     let whole = drier .before in
-    answers-second (rw (drier .probe-at .ensures)) (c .before .if2 .left) (rw (c .probe-at2 .ensures))
-    ∙ answers-skip _ (whole .before .section-refusal .ensures) (whole .if1 .left)
+    let place = whole .before .before .readings .ensures in
+    answers-second (rw (drier .probe-at .ensures, place)) (c .before .if2 .left) (rw (c .probe-at2 .ensures, place))
+    ∙ answers-skip _ (whole .before .section-refusal .ensures ∙ rw place) (whole .if1 .left)
 
 pub readings-section-refusal-spec : {M : Type 1} → statement M
 readings-section-refusal-spec =
     tie.close
     (tie.spec
-    mul-at
-    add-at
+    readings-requires
     section-refusal-requires
     returns
     add-probe-at

@@ -4,11 +4,8 @@ use Rattle.bale.specs.Reader.{noteIn}
 use Rattle.bale.proofs.finding.note_in.Statement.{statement}
 use Rattle.bale.proofs.finding.note_in.Tie as tie
 
-mul-at : tie.Need-mul-at
-mul-at c = search needs
-
-add-at : tie.Need-add-at
-add-at c = search needs
+readings-requires : tie.Need-readings-requires
+readings-requires c κs = search needs
 
 add-probe-at : tie.Need-add-probe-at
 add-probe-at c = search needs
@@ -30,8 +27,7 @@ pub note-in-spec : {M : Type 1} → statement M
 note-in-spec =
     tie.close
     (tie.spec
-    mul-at
-    add-at
+    readings-requires
     add-probe-at
     probe-at-requires
     add-probe-at-2

@@ -7,14 +7,17 @@ use Rattle.bale.specs.Reader.{slotIn}
 use Rattle.bale.proofs.finding.slot_in.Statement.{statement}
 use Rattle.bale.proofs.finding.slot_in.Tie as tie
 
+add-u16-at : tie.Need-add-u16-at
+add-u16-at c = search needs
+
 cast-u16-at : tie.Need-cast-u16-at
 cast-u16-at c = search needs
 
 mul-u16-at : tie.Need-mul-u16-at
 mul-u16-at c = search needs
 
-add-u16-at : tie.Need-add-u16-at
-add-u16-at c = search needs
+add-u16-at-2 : tie.Need-add-u16-at-2
+add-u16-at-2 c = search needs
 
 u16-at-requires : tie.Need-u16-at-requires
 u16-at-requires c κs = search needs
@@ -29,4 +32,4 @@ returns-2 c = (rw (lt-leb _ _ (c .if1 .left)), omega arith)
 
 pub slot-in-spec : {M : Type 1} → statement M
 slot-in-spec =
-    tie.close (tie.spec cast-u16-at mul-u16-at add-u16-at u16-at-requires returns returns-2)
+    tie.close (tie.spec add-u16-at cast-u16-at mul-u16-at add-u16-at-2 u16-at-requires returns returns-2)

@@ -7,7 +7,8 @@ use borrow.Fn.PlainCycle.{Measures, is, falls, and}
 use denote.Ref.{now}
 use Rattle.pyramid.proofs.Sizes.{nodes-down}
 use Rattle.pyramid.proofs.LevelParts.{least-nodes}
-use Rattle.bale.proofs.Pieces.{part-long, sections-last, sections-more}
+use Rattle.mathematics.proofs.Splices.{part-long}
+use Rattle.bale.proofs.Pieces.{sections-last, sections-more}
 use Rattle.bale.proofs.putting.put_levels.Reads as reads
 use Rattle.bale.proofs.putting.put_levels.Kinds as kinds
 use Rattle.bale.proofs.putting.+put_levels.Lts-put_levels as lts

@@ -1,0 +1,20 @@
+// Where the sections of a file stand (document 01, "Bale file"): each starts with its count.
+ghost use mathlib.Core.Path.{_≡_};
+ghost use Rattle.bale.specs.Reader.{readingsPlace, levelsPlace};
+
+// The bins, after the four numbers of the shape.
+pub const BINS: usize = 10;
+
+// The readings, after the bins of so many levels above level 0, and of level 0.
+pub fn readings(depth: u16) -> usize
+    ensures { λ r. ⌜ r ≡ readingsPlace depth ⌝ }
+{
+    BINS + 2 + 2 * (depth as usize + 1)
+}
+
+// The levels, after the two readings.
+pub fn levels(depth: u16) -> usize
+    ensures { λ r. ⌜ r ≡ levelsPlace depth ⌝ }
+{
+    readings(depth) + 12
+}
