@@ -4,6 +4,7 @@ use crate::base::base;
 use crate::calling;
 use crate::calling::Lengths;
 use crate::calling::Put;
+use crate::shapes;
 use crate::tally::Tally;
 use crate::tally::counted;
 use pyramid::Settings;
@@ -57,7 +58,7 @@ pub(crate) fn are_slots(slots: [u16; 7], expected: [u16; 7]) -> bool {
     true
 }
 
-// The answer of all four functions, with buffers of the lengths of the settings without the fault.
+// The answer of all functions, with buffers of the lengths of the settings without the fault.
 pub(crate) fn answered(t: Tally, s: Settings, answer: u16) -> Tally {
     let n = Lengths {
         picture: base::PIXELS,
@@ -68,7 +69,8 @@ pub(crate) fn answered(t: Tally, s: Settings, answer: u16) -> Tally {
     let mut u = counted(t, nodes_give(s, answer, base::NODES));
     u = counted(u, bounds_give(s, answer));
     u = counted(u, calling::coding_gives(s, n, answer, base::NODES));
-    counted(u, calling::rebuilding_gives(s, n, put, answer, base::NODES))
+    u = counted(u, calling::rebuilding_gives(s, n, put, answer, base::NODES));
+    shapes::answered(u, s, answer)
 }
 
 fn columns(t: Tally) -> Tally {

@@ -6,6 +6,7 @@ mod combinations;
 mod faults;
 mod lengths;
 mod pieces;
+mod shapes;
 mod tally;
 
 use tally::empty;
@@ -17,6 +18,7 @@ fn main() {
     print(b"deepest depth", pieces::deepest_depths(empty()));
     print(b"index limit", pieces::index_limit(empty()));
     print(b"faulty settings", faults::all(empty()));
+    print(b"ranges of indices", shapes::ranges(empty()));
     print(b"lengths of buffers", lengths::all(empty()));
     print(
         b"combinations of faults, coding",
