@@ -59,9 +59,10 @@ pub fn index_row(averages: &[i32], predicted: &[i32], bin: u16, levels: &mut [i1
     requires { ⌜ IndicesWithin (now averages) (now predicted) bin ⌝ }
     ensures { λ _. ⌜ now (levels .exit) ≡ splice at (tabulate (length (now (averages .entry))) (λ i. binIndex (getD (now (averages .entry)) i (pos 0) -ℤ getD (now (predicted .entry)) i (pos 0)) bin)) (now (levels .entry)) ⌝ }
 {
+    let factor = quantizer::reciprocal(bin);
     let mut i = 0;
     while i < averages.len() {
-        levels[at + i] = quantizer::bin_index(averages[i] - predicted[i], bin) as i16;
+        levels[at + i] = quantizer::bin_index(averages[i] - predicted[i], bin, factor) as i16;
         i += 1;
     }
 }

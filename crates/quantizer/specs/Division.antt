@@ -1,4 +1,5 @@
--- Division that rounds down. Assumes nothing.
+-- Division that rounds down, and by a multiplication. Assumes nothing.
+use Prim.Native.Nat.{ℕ, zero, suc, _+_, _*_, _/_, _≤_, _<_}
 use lib.IntN.{ℤ, pos, _+ℤ_, _*ℤ_}
 use lib.Signed.{_≤ℤ_, _<ℤ_}
 
@@ -7,9 +8,13 @@ pub record Floor (x d q : ℤ) : Type 0 where
   pub low : (q *ℤ d) ≤ℤ x
   pub high : x <ℤ ((q +ℤ pos 1) *ℤ d)
 
--- what `divide` asks: a divisor of 1 to 65,535, and an addend from 0 to below it
-pub record Divisor (d h : ℤ) : Type 0 where
-  pub least : pos 1 ≤ℤ d
-  pub most : d ≤ℤ pos 65535
-  pub from : pos 0 ≤ℤ h
-  pub below : h <ℤ d
+-- the smallest whole number above 2^31/d; of 0 it is 0
+unfoldable pub reciprocal : ℕ → ℕ
+reciprocal zero = 0
+reciprocal (suc d) = 2147483648 / suc d + 1
+
+-- f is above 2^31/d, by 1 at most, and d is one of the bins: a number short enough, times f, over 2^31 is then the number over d
+pub record Reciprocal (d f : ℕ) : Type 0 where
+  pub few : d ≤ 255
+  pub above : 2147483648 < f * d
+  pub near : f * d ≤ 2147483648 + d

@@ -1,68 +1,89 @@
--- `quantizer::divide` meets its contract: the quotient toward zero, put right by the remainder with the addend. Assumes nothing.
-use mathlib.Core.Path.{_≡_}
-use lib.IntN.{pos, _+ℤ_, _-ℤ_}
-use lib.Signed.{quotZ, remZ}
-use borrow.Author.Needs.{sfits-of}
-use mir.Syntax.{w32}
+-- `quantizer::divide` meets its contract: what is divided is not below 0, and 64 bits hold it. Assumes nothing.
+use mathlib.Core.Path.{_≡_, sym, subst}
+use Prim.Native.Nat.{_/_}
+use native.Mathlib.Omega.{arith}
+use borrow.Author.Needs.{needs}
+use lib.IntN.{ℤ, pos, natAbs, _+ℤ_, _-ℤ_, _*ℤ_}
+use mir.Facts.{toZ-ofZ, sfits-widen}
+use mir.Syntax.{w32, w64}
 use mir.Val.{SFits, toZ, ofZ}
-use mir.Facts.{toZ-ofZ}
-use Rattle.mathematics.proofs.IntegerLaws.{ltZ-true, ltZ-false, leZ-true, leZ-false}
-use Rattle.quantizer.specs.Division.{Floor}
-use Rattle.quantizer.proofs.Division.{quotient-fits, remainder-fits, sum-fits, bits-positive, floor-down, floor-up, floor-same, floor-fits}
+use Rattle.mathematics.proofs.IntegerLaws.{abs-of-fits}
+use Rattle.mathematics.proofs.Held.{held, held-is}
+use Rattle.quantizer.proofs.Division.{raised, Raised, sum-need, product-need, raised-need, raised-value, raised-natural, raised-below, raised-floor, quotient-fits, quotient-value, floor-fits}
 use Rattle.quantizer.proofs.divide.Statement.{statement}
 use Rattle.quantizer.proofs.divide.Tie as tie
 
-ruleset ranges = (toZ-ofZ, sfits-of, quotient-fits, remainder-fits, sum-fits, bits-positive)
-
--- the remainder with the addend, as the tests read it
 module _ (s : tie.Start) where
-  added : toZ w32 (ofZ w32 (toZ w32 (ofZ w32 (remZ (toZ w32 (ofZ w32 (s .args .x))) (toZ w32 (ofZ w32 (s .args .d))))) +ℤ toZ w32 (ofZ w32 (s .args .h))))
-      ≡ remZ (s .args .x) (s .args .d) +ℤ s .args .h
-  added = search ranges
+  wide : SFits w64 (s .args .x)
+  wide = sfits-widen tt (s .fits .x)
 
-  divisor : toZ w32 (ofZ w32 (s .args .d)) ≡ s .args .d
-  divisor = search ranges
+  value-x : toZ w64 (ofZ w64 (held (s .args .x))) ≡ s .args .x
+  value-x = rw (held-is (s .fits .x)) (toZ-ofZ wide)
 
-  within : {q : _} → Floor (s .args .x +ℤ s .args .h) (s .args .d) q → SFits w32 q
-  within l = floor-fits w32 (s .args .x) (s .args .h) (s .args .d) _ (s .pre) (search ranges) l
+  ready : Raised w64 (s .args .x) (s .args .h) (s .args .d) 2147483648
+  ready = record { near = abs-of-fits w32 (s .args .x) (s .fits .x); below = s .pre; room = omega arith }
 
-below : (c : tie.Then1) → Floor (c .before .args .x +ℤ c .before .args .h) (c .before .args .d) (quotZ (c .before .args .x) (c .before .args .d) -ℤ pos 1)
-below c = floor-down (c .before .args .x) (c .before .args .h) (c .before .args .d) (c .before .pre) (ltZ-true (rw (added (c .before)) at (c .if1 .taken)))
+  -- what is divided, as it is held
+  abbrev stored : ℤ
+  stored = toZ w64 (ofZ w64 (toZ w64 (ofZ w64 (toZ w64 (ofZ w64 (held (s .args .x))) +ℤ toZ w64 (s .args .h))) +ℤ toZ w64 (ofZ w64 (toZ w64 (s .args .d) *ℤ pos 2147483648))))
 
-above : (c : tie.Then2) → Floor (c .before .before .args .x +ℤ c .before .before .args .h) (c .before .before .args .d) (quotZ (c .before .before .args .x) (c .before .before .args .d) +ℤ pos 1)
-above c =
-    let s = c .before .before in
-    floor-up (s .args .x) (s .args .h) (s .args .d) (s .pre) (leZ-true (rw (added s, divisor s) at (c .if2 .taken)))
+  raised-is : stored ≡ raised (s .args .x) (s .args .h) (s .args .d) 2147483648
+  raised-is = rw value-x (raised-value ready)
 
-between : (c : tie.Else2) → Floor (c .before .before .args .x +ℤ c .before .before .args .h) (c .before .before .args .d) (quotZ (c .before .before .args .x) (c .before .before .args .d))
-between c =
-    let s = c .before .before in
-    floor-same (s .args .x) (s .args .h) (s .args .d) (s .pre) (ltZ-false (rw (added s) at (c .before .if1 .left))) (leZ-false (rw (added s, divisor s) at (c .if2 .left)))
+  result-fits : SFits w32 (pos (natAbs (raised (s .args .x) (s .args .h) (s .args .d) 2147483648) / s .args .d) -ℤ pos 2147483648)
+  result-fits = floor-fits w32 (s .args .x) (s .args .h) (s .args .d) _ (s .pre) (s .fits .x) (raised-floor ready)
 
-returns : tie.Need-returns
-returns c = let l = below c in let f = within (c .before) l in search ranges
+cast-raised : tie.Need-cast-raised
+cast-raised c = rw (held-is (c .fits .x)) (wide c)
 
-returns-2 : tie.Need-returns-2
-returns-2 c = let l = above c in let f = within (c .before .before) l in search ranges
+cast-raised-2 : tie.Need-cast-raised-2
+cast-raised-2 c = search needs
 
-returns-3 : tie.Need-returns-3
-returns-3 c = let l = between c in search ranges
+add-raised : tie.Need-add-raised
+add-raised c = rw (value-x c) (sum-need (ready c))
 
-div-q : tie.Need-div-q
-div-q c = search ranges
+cast-raised-3 : tie.Need-cast-raised-3
+cast-raised-3 c = search needs
 
-rem-r : tie.Need-rem-r
-rem-r c = search ranges
+mul-raised : tie.Need-mul-raised
+mul-raised c = product-need (ready c)
 
-add-r : tie.Need-add-r
-add-r c = search ranges
+add-raised-2 : tie.Need-add-raised-2
+add-raised-2 c = rw (value-x c) (raised-need (ready c))
+
+cast-raised-4 : tie.Need-cast-raised-4
+cast-raised-4 c = rw (raised-is c) (raised-natural (ready c), record { fits = omega (arith, raised-below (ready c)) })
+
+div-quotient : tie.Need-div-quotient
+div-quotient c = search needs
+
+cast-quotient : tie.Need-cast-quotient
+cast-quotient c = subst (λ (z : ℤ). SFits w64 (pos (natAbs z / c .args .d))) (sym (raised-is c)) (quotient-fits (ready c))
 
 sub-result : tie.Need-sub-result
-sub-result c = let f = within (c .before) (below c) in search ranges
+sub-result c = rw (raised-is c, quotient-value (ready c)) (sfits-widen tt (result-fits c))
 
-add-result : tie.Need-add-result
-add-result c = let f = within (c .before .before) (above c) in search ranges
+cast-result : tie.Need-cast-result
+cast-result c = rw (raised-is c, quotient-value (ready c), toZ-ofZ (sfits-widen tt (result-fits c))) (result-fits c)
+
+returns : tie.Need-returns
+returns c =
+    rw (raised-is c, quotient-value (ready c), toZ-ofZ (sfits-widen tt (result-fits c)), held-is (result-fits c))
+    (raised-floor (ready c))
 
 pub divide-spec : {M : Type 1} → statement M
 divide-spec =
-    tie.close (tie.spec div-q rem-r add-r sub-result returns add-result returns-2 returns-3)
+    tie.close
+    (tie.spec
+    cast-raised
+    cast-raised-2
+    add-raised
+    cast-raised-3
+    mul-raised
+    add-raised-2
+    cast-raised-4
+    div-quotient
+    cast-quotient
+    sub-result
+    cast-result
+    returns)

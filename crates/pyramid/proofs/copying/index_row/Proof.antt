@@ -11,11 +11,14 @@ use Rattle.pyramid.proofs.copying.index_row.Statement.{statement}
 use Rattle.pyramid.proofs.copying.index_row.Tie as tie
 
 abbrev Inv-loop : tie.InvT-loop
-Inv-loop averages predicted bin levels₀ at i₀ levels i =
+Inv-loop averages predicted bin levels₀ at factor i₀ levels i =
     Filling at (length averages) (λ k. binIndex (getD averages k (pos 0) -ℤ getD predicted k (pos 0)) bin) levels₀ levels i
 
 abbrev μ-loop : tie.MeasureT-loop
-μ-loop averages predicted bin levels₀ at i₀ levels i = length averages - i
+μ-loop averages predicted bin levels₀ at factor i₀ levels i = length averages - i
+
+reciprocal-requires : tie.Need-reciprocal-requires Inv-loop μ-loop
+reciprocal-requires c κs = search needs
 
 loop-holds : tie.Need-loop-holds Inv-loop μ-loop
 loop-holds c = filling-start _ _ _ _
@@ -33,7 +36,7 @@ shared-slice-copy-out-bin-index-2 : tie.Need-shared-slice-copy-out-bin-index-2 I
 shared-slice-copy-out-bin-index-2 c = search needs
 
 sub-bin-index : tie.Need-sub-bin-index Inv-loop μ-loop
-sub-bin-index c = let s = c .before .before .before .before in let i = c .before .before .before .loop .i in difference-fits (s .pre .1 .0 i) (s .pre .1 .1 .0 i)
+sub-bin-index c = let l = c .before .before .before in let s = l .before .before in let i = l .loop .i in difference-fits (s .pre .1 .0 i) (s .pre .1 .1 .0 i)
 
 bin-index-requires : tie.Need-bin-index-requires Inv-loop μ-loop
 bin-index-requires c κs = search needs
@@ -41,15 +44,15 @@ bin-index-requires c κs = search needs
 cast-levels : tie.Need-cast-levels Inv-loop μ-loop
 cast-levels c =
     let l = c .before .before .before .before in
-    let s = l .before in
+    let s = l .before .before in
     let i = l .loop .i in
     index-fits (s .pre .1 .0 i) (s .pre .1 .1 .0 i) (s .args .bin) (s .pre .1 .1 .1 .at i (omega arith)) (c .bin-index .ensures)
 
-add-t17 : tie.Need-add-t17 Inv-loop μ-loop
-add-t17 c = search needs
+add-t18 : tie.Need-add-t18 Inv-loop μ-loop
+add-t18 c = search needs
 
-mul-t18 : tie.Need-mul-t18 Inv-loop μ-loop
-mul-t18 c = search needs
+mul-t19 : tie.Need-mul-t19 Inv-loop μ-loop
+mul-t19 c = search needs
 
 slice-set-from-levels : tie.Need-slice-set-from-levels Inv-loop μ-loop
 slice-set-from-levels c = search needs
@@ -63,7 +66,7 @@ loop-less c = search needs
 loop-again : tie.Need-loop-again Inv-loop μ-loop
 loop-again c =
     let l = c .before .before .before .before in
-    let s = l .before in
+    let s = l .before .before in
     let i = l .loop .i in
     filling-next (l .loop .inv) (omega arith) (omega arith)
     (index-short (s .pre .1 .0 i) (s .pre .1 .1 .0 i) (s .args .bin) (s .pre .1 .1 .1 .at i (omega arith)) (c .bin-index .ensures)) (omega arith)
@@ -80,6 +83,7 @@ index-row-spec =
     (tie.spec
     Inv-loop
     μ-loop
+    reciprocal-requires
     loop-holds
     mul-bin-index
     shared-slice-copy-out-bin-index
@@ -88,8 +92,8 @@ index-row-spec =
     sub-bin-index
     bin-index-requires
     cast-levels
-    add-t17
-    mul-t18
+    add-t18
+    mul-t19
     slice-set-from-levels
     add-i
     loop-less
