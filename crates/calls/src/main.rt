@@ -1,4 +1,4 @@
-// Checks worked pieces of document 01 by calls, and every refusal of coding and rebuilding in its order, with what it leaves in the lent buffers.
+// Checks rounding, the bin rule and worked pieces of document 01 by calls, and every refusal of coding and rebuilding in its order, with what it leaves in the lent buffers.
 mod base;
 mod buffers;
 mod calling;
@@ -6,6 +6,7 @@ mod combinations;
 mod faults;
 mod lengths;
 mod pieces;
+mod rounding;
 mod shapes;
 mod tally;
 
@@ -13,6 +14,8 @@ use tally::empty;
 use tally::print;
 
 fn main() {
+    print(b"rounding", rounding::rounded(empty()));
+    print(b"bin rule", rounding::indices(empty()));
     print(b"piece A", pieces::piece_a(empty()));
     print(b"sizes", pieces::sizes(empty()));
     print(b"deepest depth", pieces::deepest_depths(empty()));
