@@ -1,3 +1,4 @@
 pub mod Rounding
 pub mod Bins
 pub mod Division
+pub mod Reciprocals

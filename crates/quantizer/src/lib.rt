@@ -5,7 +5,8 @@ ghost use Prim.Native.Nat.{_≤_, _<_};
 ghost use lib.IntN.{pos, natAbs, _+ℤ_};
 ghost use Rattle.quantizer.specs.Rounding.{roundDiv};
 ghost use Rattle.quantizer.specs.Bins.{binIndex};
-ghost use Rattle.quantizer.specs.Division.{Floor, Reciprocal, reciprocal};
+ghost use Rattle.quantizer.specs.Division.{Floor};
+ghost use Rattle.quantizer.specs.Reciprocals.{reciprocal, Reciprocal};
 
 // The largest whole number not above (x + h) / d. 2^31 divisors are added, so that what is divided is not negative, and taken off again.
 fn divide(x: i32, h: u16, d: u16) -> i32
