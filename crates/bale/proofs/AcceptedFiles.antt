@@ -6,20 +6,20 @@ use native.Mathlib.Omega.{arith}
 use lib.Dec.{T, leb, eqb, leb→le, le→leb, eqb→eq}
 use lib.IntN.{ℤ}
 use lib.ListN.{length}
-use Rattle.mathematics.specs.Splices.{splice}
+use Rattle.mathematics.specs.Inner.Splices.{splice}
 use Rattle.mathematics.proofs.Splices.{splice-whole}
 use Rattle.pyramid.specs.declared.Settings.{Settings}
-use Rattle.pyramid.specs.Sizes.{nodesAt, nodesTo, total}
-use Rattle.pyramid.specs.Lawful.{Shaped, Lawful}
-use Rattle.pyramid.specs.Refusals.{settingsRefusal, valuesOk}
+use Rattle.pyramid.specs.Definitions.Sizes.{nodesAt, nodesTo, total}
+use Rattle.pyramid.specs.Inner.Lawful.{Shaped, Lawful}
+use Rattle.pyramid.specs.Definitions.Refusals.{settingsRefusal, valuesOk}
 use Rattle.pyramid.proofs.Refusals.{first-nil, first-none, first-pass, unless-holds, unless-none, accepted-shape, accepted-settings}
 use Rattle.pyramid.proofs.Sizes.{nodesTo-zero, nodesTo-suc, total-is}
 use Rattle.bale.specs.declared.Note.{Note}
-use Rattle.bale.specs.Words.{u16At}
-use Rattle.bale.specs.Readings.{noteOk}
-use Rattle.bale.specs.Files.{fileSize}
-use Rattle.bale.specs.Reader.{levelsPlace, settingsIn, levelsFrom, levelsIn, shapeSectionRefusal, levelSectionsRefusal, bodyRefusal}
-use Rattle.bale.specs.Calls.{writeRefusal, readRefusal}
+use Rattle.bale.specs.Definitions.Words.{u16At}
+use Rattle.bale.specs.Definitions.Readings.{noteOk}
+use Rattle.bale.specs.Definitions.Files.{fileSize}
+use Rattle.bale.specs.Definitions.Reader.{levelsPlace, settingsIn, levelsFrom, levelsIn, shapeSectionRefusal, levelSectionsRefusal, bodyRefusal}
+use Rattle.bale.specs.Definitions.Calls.{writeRefusal, readRefusal}
 use Rattle.bale.proofs.Sections.{eqb-of}
 use Rattle.bale.proofs.LevelTrips.{length-from}
 

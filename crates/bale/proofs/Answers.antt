@@ -9,10 +9,10 @@ use Rattle.pyramid.proofs.Refusals.{leaves-new, leaves-kept}
 use Rattle.bale.specs.declared.Note.{Note}
 use Rattle.bale.specs.declared.FileSize.{FileSize}
 use Rattle.bale.specs.declared.Bale.{Bale}
-use Rattle.bale.specs.Words.{u16At}
-use Rattle.bale.specs.Files.{fileOf, fileSize}
-use Rattle.bale.specs.Reader.{settingsIn, noteIn, levelsIn}
-use Rattle.bale.specs.Calls.{sizeAnswer, writeRefusal, writing, noSettings, noNote, baleOf, readRefusal, reading}
+use Rattle.bale.specs.Definitions.Words.{u16At}
+use Rattle.bale.specs.Definitions.Files.{fileOf, fileSize}
+use Rattle.bale.specs.Definitions.Reader.{settingsIn, noteIn, levelsIn}
+use Rattle.bale.specs.Definitions.Calls.{sizeAnswer, writeRefusal, writing, noSettings, noNote, baleOf, readRefusal, reading}
 use Rattle.bale.proofs.AcceptedFiles.{accepted-writing}
 use Rattle.bale.proofs.Writings.{size-is}
 

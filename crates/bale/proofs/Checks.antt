@@ -6,20 +6,20 @@ use Prim.Native.Nat.{ℕ, zero, suc, _+_, _-_, _*_}
 use native.Mathlib.Omega.{arith}
 use borrow.Author.Tests.{eq-eqb, ne-eqb}
 use lib.ListN.{length}
-use Rattle.mathematics.specs.Tests.{all}
+use Rattle.mathematics.specs.Definitions.Tests.{all}
 use Rattle.pyramid.specs.declared.Settings.{Settings}
 use Rattle.pyramid.specs.declared.Nodes.{Nodes}
-use Rattle.pyramid.specs.Settings.{bin, binsOk}
-use Rattle.pyramid.specs.Sizes.{nodesAt, total}
-use Rattle.pyramid.specs.Lawful.{Shaped}
-use Rattle.pyramid.specs.Refusals.{unless, indexOk, shapeRefusal, settingsRefusal}
-use Rattle.pyramid.specs.Answers.{shapeAnswer}
+use Rattle.pyramid.specs.Definitions.Settings.{bin, binsOk}
+use Rattle.pyramid.specs.Definitions.Sizes.{nodesAt, total}
+use Rattle.pyramid.specs.Inner.Lawful.{Shaped}
+use Rattle.pyramid.specs.Definitions.Refusals.{unless, indexOk, shapeRefusal, settingsRefusal}
+use Rattle.pyramid.specs.Definitions.Answers.{shapeAnswer}
 use Rattle.pyramid.proofs.Refusals.{first-nil, first-none, answers-stop, answers-skip, answers-last, answers-second, answers-fails, answers-passes, accepted-shape, settings-bins}
 use Rattle.pyramid.proofs.ShapeAnswers.{shape-accepted, shape-total}
-use Rattle.bale.specs.Words.{u16At, indicesAt}
-use Rattle.bale.specs.Sections.{sectionRefusal}
-use Rattle.bale.specs.Reader.{settingsIn, levelsPlace, shapeSectionRefusal, levelSectionRefusal, levelSectionsRefusal, bodyRefusal}
-use Rattle.bale.specs.Calls.{readRefusal}
+use Rattle.bale.specs.Definitions.Words.{u16At, indicesAt}
+use Rattle.bale.specs.Definitions.Sections.{sectionRefusal}
+use Rattle.bale.specs.Definitions.Reader.{settingsIn, levelsPlace, shapeSectionRefusal, levelSectionRefusal, levelSectionsRefusal, bodyRefusal}
+use Rattle.bale.specs.Definitions.Calls.{readRefusal}
 
 -- ---- the settings that a file holds
 

@@ -1,7 +1,7 @@
 -- The writer accepts whatever levels an accepted coding leaves. Assumes nothing.
-use Rattle.pyramid.specs.Calls.{coding}
+use Rattle.pyramid.specs.Definitions.Calls.{coding}
 use Rattle.pyramid.proofs.CodedLevels.{coded-settings, coded-values, coded-total}
-use Rattle.bale.specs.RoundTrips.{CodedThenWritten}
+use Rattle.bale.specs.Theorems.RoundTrips.{CodedThenWritten}
 use Rattle.bale.proofs.AcceptedFiles.{writing-accepted}
 
 pub coded-then-written : CodedThenWritten

@@ -6,11 +6,11 @@ use native.Mathlib.Omega.{arith}
 use lib.IntN.{ℤ}
 use lib.ListN.{length, length-append}
 use Rattle.pyramid.specs.declared.Settings.{Settings}
-use Rattle.pyramid.specs.Sizes.{total}
+use Rattle.pyramid.specs.Definitions.Sizes.{total}
 use Rattle.pyramid.proofs.Sizes.{total-is}
 use Rattle.bale.specs.declared.Note.{Note}
-use Rattle.bale.specs.Words.{le16, le32}
-use Rattle.bale.specs.Files.{shapeSection, binsFrom, binsSection, readingsSection, levelSections, fileOf, fileSize}
+use Rattle.bale.specs.Definitions.Words.{le16, le32}
+use Rattle.bale.specs.Definitions.Files.{shapeSection, binsFrom, binsSection, readingsSection, levelSections, fileOf, fileSize}
 use Rattle.bale.proofs.Sections.{length-numbers}
 use Rattle.bale.proofs.LevelTrips.{length-levels}
 

@@ -9,20 +9,20 @@ use lib.ListN.{length, getD, take, drop, length-append, length-map, length-drop,
 use lib.Seq.{length-take-le, take-all, take-at, drop-at}
 use mir.Syntax.{w16}
 use mir.Val.{SFits}
-use Rattle.mathematics.specs.Tests.{all}
+use Rattle.mathematics.specs.Definitions.Tests.{all}
 use Rattle.mathematics.proofs.Tests.{both, both-of}
 use Rattle.pyramid.specs.declared.Settings.{Settings}
-use Rattle.pyramid.specs.Settings.{bin}
-use Rattle.pyramid.specs.Sizes.{nodesAt, nodesTo}
-use Rattle.pyramid.specs.Buffers.{Bytes}
-use Rattle.pyramid.specs.Refusals.{indexOk}
+use Rattle.pyramid.specs.Definitions.Settings.{bin}
+use Rattle.pyramid.specs.Definitions.Sizes.{nodesAt, nodesTo}
+use Rattle.pyramid.specs.Definitions.Buffers.{Bytes}
+use Rattle.pyramid.specs.Definitions.Refusals.{indexOk}
 use Rattle.pyramid.proofs.Refusals.{first-nil, first-none, first-pass, unless-holds, unless-none}
 use Rattle.pyramid.proofs.Sizes.{nodesTo-zero, nodesTo-suc}
 use Rattle.pyramid.proofs.CheckedLevels.{checked, checked-zero, checked-suc}
-use Rattle.bale.specs.Words.{wordsAt, indexWord, wordIndex, indicesAt}
-use Rattle.bale.specs.Sections.{numbersSection}
-use Rattle.bale.specs.Files.{levelSection, levelSections}
-use Rattle.bale.specs.Reader.{levelsFrom, levelSectionRefusal, levelSectionsRefusal}
+use Rattle.bale.specs.Definitions.Words.{wordsAt, indexWord, wordIndex, indicesAt}
+use Rattle.bale.specs.Definitions.Sections.{numbersSection}
+use Rattle.bale.specs.Definitions.Files.{levelSection, levelSections}
+use Rattle.bale.specs.Definitions.Reader.{levelsFrom, levelSectionRefusal, levelSectionsRefusal}
 use Rattle.bale.proofs.Stands.{Stands, stands-front, stands-back, stands-join}
 use Rattle.bale.proofs.WordLaws.{word-back, index-back, word-small}
 use Rattle.bale.proofs.WordLists.{Short, length-wordsAt, words-short}

@@ -11,20 +11,20 @@ use lib.Seq.{length-take-le, take-all, take-suc, drop-drop}
 use mir.Syntax.{w16}
 use mir.Facts.{sfits-toZ}
 use mir.Val.{SFits, toZ}
-use Rattle.mathematics.specs.Splices.{splice, part}
-use Rattle.mathematics.specs.Tables.{tabulate}
+use Rattle.mathematics.specs.Inner.Splices.{splice, part}
+use Rattle.mathematics.specs.Definitions.Tables.{tabulate}
 use Rattle.mathematics.proofs.Held.{short, short-is}
 use Rattle.mathematics.proofs.Tables.{tabulate-same, tabulate-map}
 use Rattle.mathematics.proofs.Splices.{length-splice, part-long, splice-nil, splice-append, splice-front}
 use Rattle.pyramid.specs.declared.Settings.{Settings}
-use Rattle.pyramid.specs.Settings.{bin}
-use Rattle.pyramid.specs.Sizes.{nodesAt, total}
+use Rattle.pyramid.specs.Definitions.Settings.{bin}
+use Rattle.pyramid.specs.Definitions.Sizes.{nodesAt, total}
 use Rattle.bale.specs.declared.Note.{Note}
-use Rattle.bale.specs.Words.{le16, le32, words, indexWord, wordIndex, u16At, wordsAt, indicesAt}
-use Rattle.bale.specs.Readings.{readingBytes}
-use Rattle.bale.specs.Sections.{numbersSection}
-use Rattle.bale.specs.Files.{shapeSection, binsFrom, binsSection, readingsSection, levelSection, levelSections, fileOf, fileSize}
-use Rattle.bale.specs.Reader.{binsPlace, readingsPlace, levelsPlace, levelsFrom}
+use Rattle.bale.specs.Definitions.Words.{le16, le32, words, indexWord, wordIndex, u16At, wordsAt, indicesAt}
+use Rattle.bale.specs.Definitions.Readings.{readingBytes}
+use Rattle.bale.specs.Definitions.Sections.{numbersSection}
+use Rattle.bale.specs.Definitions.Files.{shapeSection, binsFrom, binsSection, readingsSection, levelSection, levelSections, fileOf, fileSize}
+use Rattle.bale.specs.Definitions.Reader.{binsPlace, readingsPlace, levelsPlace, levelsFrom}
 use Rattle.bale.proofs.WordLists.{length-words, words-append, length-wordsAt, getD-wordsAt}
 use Rattle.bale.proofs.LevelTrips.{length-level, length-indices}
 use Rattle.bale.proofs.FileLengths.{length-shape, length-bins, length-readings, length-file, length-binsFrom}

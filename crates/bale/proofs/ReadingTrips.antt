@@ -7,16 +7,16 @@ use native.Mathlib.Omega.{arith}
 use lib.Dec.{T}
 use lib.ListN.{length, getD}
 use Rattle.mathematics.proofs.Tests.{both, both-of}
-use Rattle.pyramid.specs.Buffers.{Bytes}
+use Rattle.pyramid.specs.Definitions.Buffers.{Bytes}
 use Rattle.pyramid.proofs.Refusals.{first-nil, first-none, first-pass}
 use Rattle.bale.specs.declared.Reading.{Reading}
 use Rattle.bale.specs.declared.Note.{Note}
 use Rattle.bale.specs.declared.Probe.{Probe}
-use Rattle.bale.specs.Words.{le16, le32, u16At, u32At}
-use Rattle.bale.specs.Readings.{readingOk, noteOk, kindOf, numberOf, readingBytes}
-use Rattle.bale.specs.Files.{readingsSection}
-use Rattle.bale.specs.Reader.{readingsPlace, probeAt, noteIn, readingsSectionRefusal}
-use Rattle.bale.specs.RoundTrips.{HeldReading}
+use Rattle.bale.specs.Definitions.Words.{le16, le32, u16At, u32At}
+use Rattle.bale.specs.Definitions.Readings.{readingOk, noteOk, kindOf, numberOf, readingBytes}
+use Rattle.bale.specs.Definitions.Files.{readingsSection}
+use Rattle.bale.specs.Definitions.Reader.{readingsPlace, probeAt, noteIn, readingsSectionRefusal}
+use Rattle.bale.specs.Theorems.RoundTrips.{HeldReading}
 use Rattle.bale.proofs.Stands.{Stands, stands-front, stands-back, stands-join}
 use Rattle.bale.proofs.WordLaws.{digits32, bytes32}
 use Rattle.bale.proofs.Readings.{decode-code, number-small, code-decode}

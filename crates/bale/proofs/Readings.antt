@@ -17,8 +17,8 @@ use Rattle.bale.specs.declared.Reading.the-variants.{NotFitted, Percenta
 use Rattle.bale.specs.declared.Note.{Note}
 use Rattle.bale.specs.declared.Code.{Code}
 use Rattle.bale.specs.declared.Probe.{Probe}
-use Rattle.bale.specs.Readings.{percentageOk, faultOk, readingOk, noteOk, kindOf, numberOf, codeOf, readingOf, codedOk, decode}
-use Rattle.bale.specs.RoundTrips.{HeldReading}
+use Rattle.bale.specs.Definitions.Readings.{percentageOk, faultOk, readingOk, noteOk, kindOf, numberOf, codeOf, readingOf, codedOk, decode}
+use Rattle.bale.specs.Theorems.RoundTrips.{HeldReading}
 
 abbrev hundred : Float
 hundred = ofBits binary32 0x42C8_0000

@@ -7,19 +7,19 @@ use lib.Dec.{T, eqb}
 use lib.IntN.{ℤ}
 use lib.ListN.{length}
 use Rattle.pyramid.specs.declared.Settings.{Settings}
-use Rattle.pyramid.specs.Settings.{binsOk}
-use Rattle.pyramid.specs.Sizes.{total}
-use Rattle.pyramid.specs.Buffers.{Bytes}
-use Rattle.pyramid.specs.Refusals.{settingsRefusal, shapeRefusal, valuesOk}
+use Rattle.pyramid.specs.Definitions.Settings.{binsOk}
+use Rattle.pyramid.specs.Definitions.Sizes.{total}
+use Rattle.pyramid.specs.Definitions.Buffers.{Bytes}
+use Rattle.pyramid.specs.Definitions.Refusals.{settingsRefusal, shapeRefusal, valuesOk}
 use Rattle.pyramid.proofs.Refusals.{first-nil, first-none, first-pass, unless-holds, unless-none, settings-parts, settings-bins}
 use Rattle.pyramid.proofs.Sizes.{total-is, total-most}
 use Rattle.pyramid.proofs.CheckedLevels.{checked, levels-checked}
 use Rattle.bale.specs.declared.Note.{Note}
-use Rattle.bale.specs.Words.{u16At}
-use Rattle.bale.specs.Files.{shapeSection, binsSection, readingsSection, levelSections, fileOf, fileSize}
-use Rattle.bale.specs.Reader.{binsPlace, readingsPlace, levelsPlace, settingsIn, noteIn, levelsFrom, levelsIn, shapeSectionRefusal, binsSectionRefusal, readingsSectionRefusal, levelSectionsRefusal, bodyRefusal}
-use Rattle.bale.specs.Calls.{writeRefusal, readRefusal, reading}
-use Rattle.bale.specs.RoundTrips.{Held, WrittenThenRead, ReadThenWritten}
+use Rattle.bale.specs.Definitions.Words.{u16At}
+use Rattle.bale.specs.Definitions.Files.{shapeSection, binsSection, readingsSection, levelSections, fileOf, fileSize}
+use Rattle.bale.specs.Definitions.Reader.{binsPlace, readingsPlace, levelsPlace, settingsIn, noteIn, levelsFrom, levelsIn, shapeSectionRefusal, binsSectionRefusal, readingsSectionRefusal, levelSectionsRefusal, bodyRefusal}
+use Rattle.bale.specs.Definitions.Calls.{writeRefusal, readRefusal, reading}
+use Rattle.bale.specs.Theorems.RoundTrips.{Held, WrittenThenRead, ReadThenWritten}
 use Rattle.bale.proofs.Stands.{Stands, stands-all, stands-whole, stands-front, stands-back, stands-join}
 use Rattle.bale.proofs.Sections.{eqb-of, Section, section-accepted, section-whole}
 use Rattle.bale.proofs.LevelTrips.{shorts, length-levels, levels-read, length-from, Written, levels-stand}

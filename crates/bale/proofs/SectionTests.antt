@@ -6,14 +6,14 @@ use native.Mathlib.Nat.{mul-le-mul}
 use borrow.Author.Tests.{le-leb, lt-leb, eq-eqb, ne-eqb}
 use lib.IntN.{ℤ}
 use lib.ListN.{length, getD, List·getD-map}
-use Rattle.mathematics.specs.Tests.{all}
+use Rattle.mathematics.specs.Definitions.Tests.{all}
 use Rattle.pyramid.specs.declared.IndexRange.{IndexRange}
-use Rattle.pyramid.specs.Refusals.{indexOk}
-use Rattle.pyramid.specs.IndexRanges.{widened, rangeOk}
+use Rattle.pyramid.specs.Definitions.Refusals.{indexOk}
+use Rattle.pyramid.specs.Definitions.IndexRanges.{widened, rangeOk}
 use Rattle.pyramid.proofs.Refusals.{answers-fails, answers-passes}
 use Rattle.pyramid.proofs.IndexRanges.{Ranged, ranged-next, ranged-end}
-use Rattle.bale.specs.Words.{u16At, wordsAt, wordIndex, indicesAt}
-use Rattle.bale.specs.Sections.{sectionRefusal}
+use Rattle.bale.specs.Definitions.Words.{u16At, wordsAt, wordIndex, indicesAt}
+use Rattle.bale.specs.Definitions.Sections.{sectionRefusal}
 use Rattle.bale.proofs.WordLists.{getD-wordsAt}
 use Rattle.bale.proofs.LevelTrips.{length-indices}
 

@@ -5,10 +5,10 @@ use Prim.Native.Nat.{ℕ, _+_, _*_, _≤_, _<_}
 use native.Mathlib.Omega.{arith}
 use lib.Dec.{T, leb, eqb, leb→le, le→leb, eqb→eq, eqb-refl}
 use lib.ListN.{length}
-use Rattle.pyramid.specs.Buffers.{Bytes}
+use Rattle.pyramid.specs.Definitions.Buffers.{Bytes}
 use Rattle.pyramid.proofs.Refusals.{first-nil, first-none, first-pass, unless-holds, unless-none}
-use Rattle.bale.specs.Words.{le16, words, u16At, wordsAt}
-use Rattle.bale.specs.Sections.{numbersSection, sectionRefusal}
+use Rattle.bale.specs.Definitions.Words.{le16, words, u16At, wordsAt}
+use Rattle.bale.specs.Definitions.Sections.{numbersSection, sectionRefusal}
 use Rattle.bale.proofs.Stands.{Stands, stands-front, stands-back, stands-join}
 use Rattle.bale.proofs.WordLists.{Short, length-words, word-read, word-stands, words-read, words-stand}
 

@@ -9,17 +9,17 @@ use borrow.Author.Tests.{le-leb, lt-leb}
 use lib.Dec.{T}
 use lib.ListN.{length, getD}
 use lib.Seq.{ext-getD}
-use Rattle.mathematics.specs.Tables.{tabulate}
+use Rattle.mathematics.specs.Definitions.Tables.{tabulate}
 use Rattle.mathematics.proofs.Tables.{length-tabulate, getD-tabulate}
 use Rattle.pyramid.specs.declared.Settings.{Settings}
-use Rattle.pyramid.specs.Settings.{bin, binsOk}
-use Rattle.pyramid.specs.Buffers.{Bytes}
-use Rattle.pyramid.specs.Lawful.{Lawful}
+use Rattle.pyramid.specs.Definitions.Settings.{bin, binsOk}
+use Rattle.pyramid.specs.Definitions.Buffers.{Bytes}
+use Rattle.pyramid.specs.Inner.Lawful.{Lawful}
 use Rattle.pyramid.proofs.Lawful.{slot-empty}
-use Rattle.bale.specs.Words.{le16, words, u16At, wordsAt}
-use Rattle.bale.specs.Sections.{numbersSection}
-use Rattle.bale.specs.Files.{shapeSection, binsFrom, binsSection}
-use Rattle.bale.specs.Reader.{binsPlace, slotIn, settingsIn}
+use Rattle.bale.specs.Definitions.Words.{le16, words, u16At, wordsAt}
+use Rattle.bale.specs.Definitions.Sections.{numbersSection}
+use Rattle.bale.specs.Definitions.Files.{shapeSection, binsFrom, binsSection}
+use Rattle.bale.specs.Definitions.Reader.{binsPlace, slotIn, settingsIn}
 use Rattle.bale.proofs.Stands.{Stands}
 use Rattle.bale.proofs.WordLists.{Short, getD-wordsAt}
 use Rattle.bale.proofs.Sections.{Section, numbers-read, numbers-stand}

@@ -5,14 +5,14 @@ use mathlib.Core.List.{List}
 use Prim.Native.Nat.{ℕ, zero, suc, _+_, _*_}
 use lib.Dec.{T, eqb}
 use Rattle.pyramid.specs.declared.Settings.{Settings}
-use Rattle.pyramid.specs.Sizes.{nodesAt, total}
-use Rattle.pyramid.specs.Refusals.{shapeRefusal}
+use Rattle.pyramid.specs.Definitions.Sizes.{nodesAt, total}
+use Rattle.pyramid.specs.Definitions.Refusals.{shapeRefusal}
 use Rattle.pyramid.proofs.Refusals.{first-over, unless-holds, unless-elim, first-elim, last-elim, shape-elim}
-use Rattle.bale.specs.Readings.{decode}
-use Rattle.bale.specs.Sections.{sectionRefusal}
-use Rattle.bale.specs.Reader.{settingsIn, probeAt, shapeSectionRefusal, binsSectionRefusal, readingsSectionRefusal, levelSectionRefusal, levelSectionsRefusal, bodyRefusal}
-use Rattle.bale.specs.Calls.{readRefusal, checkRefusal}
-use Rattle.bale.specs.Totality.{oneOf, checkNumbers, readNumbers, ReadingIsTotal}
+use Rattle.bale.specs.Definitions.Readings.{decode}
+use Rattle.bale.specs.Definitions.Sections.{sectionRefusal}
+use Rattle.bale.specs.Definitions.Reader.{settingsIn, probeAt, shapeSectionRefusal, binsSectionRefusal, readingsSectionRefusal, levelSectionRefusal, levelSectionsRefusal, bodyRefusal}
+use Rattle.bale.specs.Definitions.Calls.{readRefusal, checkRefusal}
+use Rattle.bale.specs.Theorems.Totality.{oneOf, checkNumbers, readNumbers, ReadingIsTotal}
 use Rattle.bale.proofs.Sections.{eqb-of}
 
 module _ (bytes : List ℕ) where

@@ -13,9 +13,9 @@ use lib.Signed.{ltZ, nonNeg}
 use mir.Facts.{toZ-ofZ, ofZ-toZ, fits-ofZ, toZ-pos}
 use mir.Syntax.{w16}
 use mir.Val.{Fits, SFits, ofZ, toZ}
-use Rattle.mathematics.specs.Splices.{splice}
+use Rattle.mathematics.specs.Inner.Splices.{splice}
 use Rattle.mathematics.proofs.Splices.{splice-nil, splice-set}
-use Rattle.bale.specs.Words.{le16, le32, indexWord, wordIndex}
+use Rattle.bale.specs.Definitions.Words.{le16, le32, indexWord, wordIndex}
 
 -- ---- numbers and their digits, each a byte
 

@@ -5,8 +5,8 @@ use Prim.Native.Nat.{ℕ, zero, suc, _+_, _-_, _*_, _/_, _%_, _≤_, _<_}
 use native.Mathlib.Nat.{not-suc-le-zero, add-zero}
 use native.Mathlib.Omega.{arith}
 use lib.ListN.{length, getD}
-use Rattle.pyramid.specs.Buffers.{Bytes}
-use Rattle.bale.specs.Words.{le16, words, u16At, wordsAt}
+use Rattle.pyramid.specs.Definitions.Buffers.{Bytes}
+use Rattle.bale.specs.Definitions.Words.{le16, words, u16At, wordsAt}
 use Rattle.bale.proofs.Stands.{Stands, stands-front, stands-back, stands-join}
 use Rattle.bale.proofs.WordLaws.{digits16, bytes16}
 

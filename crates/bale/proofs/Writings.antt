@@ -10,16 +10,16 @@ use lib.IntN.{ℤ}
 use lib.ListN.{length}
 use Rattle.pyramid.specs.declared.Settings.{Settings}
 use Rattle.pyramid.specs.declared.Nodes.{Nodes}
-use Rattle.pyramid.specs.Sizes.{total}
-use Rattle.pyramid.specs.Refusals.{unless, first, settingsRefusal, valuesOk, levelsRefusal}
-use Rattle.pyramid.specs.Answers.{nodesAnswer}
+use Rattle.pyramid.specs.Definitions.Sizes.{total}
+use Rattle.pyramid.specs.Definitions.Refusals.{unless, first, settingsRefusal, valuesOk, levelsRefusal}
+use Rattle.pyramid.specs.Definitions.Answers.{nodesAnswer}
 use Rattle.pyramid.proofs.Refusals.{first-over, first-last, unless-elim, unless-passes, answers-stop, answers-skip, answers-fails, answers-passes, levels-parts, leaves-new, leaves-kept}
 use Rattle.pyramid.proofs.ShapeAnswers.{nodes-answer, nodes-total}
 use Rattle.bale.specs.declared.Note.{Note}
 use Rattle.bale.specs.declared.FileSize.{FileSize}
-use Rattle.bale.specs.Readings.{noteOk}
-use Rattle.bale.specs.Files.{fileSize}
-use Rattle.bale.specs.Calls.{sizeAnswer, writeRefusal}
+use Rattle.bale.specs.Definitions.Readings.{noteOk}
+use Rattle.bale.specs.Definitions.Files.{fileSize}
+use Rattle.bale.specs.Definitions.Calls.{sizeAnswer, writeRefusal}
 
 -- ---- the size
 

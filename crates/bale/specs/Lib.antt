@@ -1,8 +1,2 @@
-pub mod Words
-pub mod Readings
-pub mod Sections
-pub mod Files
-pub mod Reader
-pub mod Calls
-pub mod RoundTrips
-pub mod Totality
+pub mod Definitions
+pub mod Theorems

@@ -10,14 +10,14 @@ use pyramid::Settings;
 ghost use mathlib.Core.Path.{_≡_};
 ghost use Prim.Native.Nat.{_+_, _*_, _≤_, _<_};
 ghost use lib.ListN.{length};
-ghost use Rattle.mathematics.specs.Tests.{all};
-ghost use Rattle.pyramid.specs.Sizes.{nodesAt};
-ghost use Rattle.pyramid.specs.Lawful.{Shaped};
-ghost use Rattle.pyramid.specs.Refusals.{indexOk};
-ghost use Rattle.bale.specs.Words.{indicesAt};
-ghost use Rattle.bale.specs.Sections.{sectionRefusal};
-ghost use Rattle.bale.specs.Reader.{settingsIn, shapeSectionRefusal, binsSectionRefusal, readingsSectionRefusal, levelSectionRefusal, levelSectionsRefusal, bodyRefusal};
-ghost use Rattle.bale.specs.Calls.{sizeAnswer, writeRefusal, readRefusal, checkRefusal};
+ghost use Rattle.mathematics.specs.Definitions.Tests.{all};
+ghost use Rattle.pyramid.specs.Definitions.Sizes.{nodesAt};
+ghost use Rattle.pyramid.specs.Inner.Lawful.{Shaped};
+ghost use Rattle.pyramid.specs.Definitions.Refusals.{indexOk};
+ghost use Rattle.bale.specs.Definitions.Words.{indicesAt};
+ghost use Rattle.bale.specs.Definitions.Sections.{sectionRefusal};
+ghost use Rattle.bale.specs.Definitions.Reader.{settingsIn, shapeSectionRefusal, binsSectionRefusal, readingsSectionRefusal, levelSectionRefusal, levelSectionsRefusal, bodyRefusal};
+ghost use Rattle.bale.specs.Definitions.Calls.{sizeAnswer, writeRefusal, readRefusal, checkRefusal};
 
 // The size of a file of settings.
 pub fn size_of(s: Settings) -> FileSize

@@ -6,12 +6,12 @@ use pyramid::Settings;
 ghost use mathlib.Core.Path.{_≡_};
 ghost use Prim.Native.Nat.{_+_, _*_, _≤_};
 ghost use lib.ListN.{length};
-ghost use Rattle.mathematics.specs.Splices.{splice};
-ghost use Rattle.pyramid.specs.Sizes.{nodesTo};
-ghost use Rattle.pyramid.specs.Lawful.{Shaped};
-ghost use Rattle.bale.specs.Words.{indicesAt};
-ghost use Rattle.bale.specs.Reader.{settingsIn, levelsFrom, levelsIn};
-ghost use Rattle.bale.specs.Calls.{readRefusal};
+ghost use Rattle.mathematics.specs.Inner.Splices.{splice};
+ghost use Rattle.pyramid.specs.Definitions.Sizes.{nodesTo};
+ghost use Rattle.pyramid.specs.Inner.Lawful.{Shaped};
+ghost use Rattle.bale.specs.Definitions.Words.{indicesAt};
+ghost use Rattle.bale.specs.Definitions.Reader.{settingsIn, levelsFrom, levelsIn};
+ghost use Rattle.bale.specs.Definitions.Calls.{readRefusal};
 
 // So many indices of the file, from a place on, into the level buffer's places from `from` on.
 fn fill_indices(file: &[u8], at: usize, count: usize, levels: &mut [i16], from: usize)

@@ -9,9 +9,9 @@ use crate::words;
 use pyramid::Settings;
 ghost use mathlib.Core.Path.{_≡_};
 ghost use Prim.Native.Nat.{_≤_, _<_};
-ghost use Rattle.mathematics.specs.Tables.{tabulate};
-ghost use Rattle.bale.specs.Reader.{slotIn, settingsIn, probeAt, noteIn};
-ghost use Rattle.bale.specs.Calls.{noSettings, noNote, baleOf};
+ghost use Rattle.mathematics.specs.Definitions.Tables.{tabulate};
+ghost use Rattle.bale.specs.Definitions.Reader.{slotIn, settingsIn, probeAt, noteIn};
+ghost use Rattle.bale.specs.Definitions.Calls.{noSettings, noNote, baleOf};
 
 fn slot_in(file: &[u8], depth: u16, level: u16) -> u16
     ensures { λ r. ⌜ (r ≡ slotIn (now (file .entry)) depth level) × (r < 65536) ⌝ }

@@ -1,8 +1,8 @@
 // The bale file of document 01: its writer, its reader, and the reader that is lent no level buffer.
 use pyramid::Settings;
 ghost use mathlib.Core.Path.{_≡_};
-ghost use Rattle.bale.specs.Readings.{codeOf, decode};
-ghost use Rattle.bale.specs.Calls.{sizeAnswer, writing, checking, reading};
+ghost use Rattle.bale.specs.Definitions.Readings.{codeOf, decode};
+ghost use Rattle.bale.specs.Definitions.Calls.{sizeAnswer, writing, checking, reading};
 
 mod checking;
 mod filling;

@@ -1,6 +1,6 @@
 // Where the sections of a file stand (document 01, "Bale file"): each starts with its count.
 ghost use mathlib.Core.Path.{_≡_};
-ghost use Rattle.bale.specs.Reader.{readingsPlace, levelsPlace};
+ghost use Rattle.bale.specs.Definitions.Reader.{readingsPlace, levelsPlace};
 
 // The bins, after the four numbers of the shape.
 pub const BINS: usize = 10;

@@ -4,7 +4,7 @@ use crate::Note;
 use crate::Probe;
 use crate::Reading;
 ghost use mathlib.Core.Path.{_≡_};
-ghost use Rattle.bale.specs.Readings.{codeOf, decode, noteOk};
+ghost use Rattle.bale.specs.Definitions.Readings.{codeOf, decode, noteOk};
 
 fn code(kind: u8, number: u32) -> Code
     ensures { λ r. ⌜ r ≡ record { refusal = 0; kind = kind; number = number } ⌝ }

@@ -11,13 +11,13 @@ ghost use mathlib.Core.List.{_++_, _∷_, map};
 ghost use Prim.Native.Nat.{_+_, _*_, _≤_, _<_};
 ghost use lib.Dec.{T};
 ghost use lib.ListN.{length, drop};
-ghost use Rattle.mathematics.specs.Splices.{splice};
-ghost use Rattle.pyramid.specs.Sizes.{nodesTo};
-ghost use Rattle.pyramid.specs.Lawful.{Shaped};
-ghost use Rattle.bale.specs.Words.{le32, words, indexWord};
-ghost use Rattle.bale.specs.Readings.{readingOk, noteOk, readingBytes};
-ghost use Rattle.bale.specs.Files.{shapeSection, binsFrom, binsSection, readingsSection, levelSection, levelSections, fileOf, fileSize};
-ghost use Rattle.bale.specs.Calls.{writeRefusal};
+ghost use Rattle.mathematics.specs.Inner.Splices.{splice};
+ghost use Rattle.pyramid.specs.Definitions.Sizes.{nodesTo};
+ghost use Rattle.pyramid.specs.Inner.Lawful.{Shaped};
+ghost use Rattle.bale.specs.Definitions.Words.{le32, words, indexWord};
+ghost use Rattle.bale.specs.Definitions.Readings.{readingOk, noteOk, readingBytes};
+ghost use Rattle.bale.specs.Definitions.Files.{shapeSection, binsFrom, binsSection, readingsSection, levelSection, levelSections, fileOf, fileSize};
+ghost use Rattle.bale.specs.Definitions.Calls.{writeRefusal};
 
 fn put_shape(s: Settings, file: &mut [u8])
     requires { ⌜ 10 ≤ length (now file) ⌝ }

@@ -2,8 +2,8 @@
 ghost use mathlib.Core.Path.{_≡_};
 ghost use Prim.Native.Nat.{_+_, _*_, _≤_, _<_};
 ghost use lib.ListN.{length, getD};
-ghost use Rattle.mathematics.specs.Splices.{splice};
-ghost use Rattle.bale.specs.Words.{le16, u16At, u32At, indexWord, wordIndex};
+ghost use Rattle.mathematics.specs.Inner.Splices.{splice};
+ghost use Rattle.bale.specs.Definitions.Words.{le16, u16At, u32At, indexWord, wordIndex};
 
 // The byte at a place, and 0 past the end.
 pub fn byte_at(bytes: &[u8], at: usize) -> u8

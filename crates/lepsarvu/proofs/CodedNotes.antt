@@ -6,17 +6,17 @@ use native.Mathlib.Decide.{ℕ-discrete}
 use lib.IntN.{ℤ}
 use lib.ListN.{length}
 use Rattle.pyramid.specs.declared.Settings.{Settings}
-use Rattle.pyramid.specs.Refusals.{first, settingsRefusal}
-use Rattle.pyramid.specs.Calls.{leaves}
+use Rattle.pyramid.specs.Definitions.Refusals.{first, settingsRefusal}
+use Rattle.pyramid.specs.Definitions.Calls.{leaves}
 use Rattle.pyramid.proofs.Refusals.{first-earlier, first-later, first-last, leaves-new, leaves-kept}
 use Rattle.bale.specs.declared.Note.{Note}
 use Rattle.bale.specs.declared.Probe.{Probe}
 use Rattle.bale.specs.declared.FileSize.{FileSize}
-use Rattle.bale.specs.Readings.{decode}
-use Rattle.bale.specs.Files.{fileSize}
-use Rattle.bale.specs.Calls.{writeRefusal, writing}
+use Rattle.bale.specs.Definitions.Readings.{decode}
+use Rattle.bale.specs.Definitions.Files.{fileSize}
+use Rattle.bale.specs.Definitions.Calls.{writeRefusal, writing}
 use Rattle.bale.proofs.Answers.{writing-refusal, writing-is, writing-refused}
-use Rattle.lepsarvu.specs.Exports.{Coded, noteOf, codedRefusal, codedFile, codedSize}
+use Rattle.lepsarvu.specs.Definitions.Exports.{Coded, noteOf, codedRefusal, codedFile, codedSize}
 
 -- the two readings
 pub coded-note : (c : Coded) {drier press : Probe} → drier ≡ decode (c .drierKind) (c .drierNumber) → press ≡ decode (c .pressKind) (c .pressNumber)

@@ -2,12 +2,12 @@
 use mathlib.Core.Path.{_≡_, sym, ap, _∙_}
 use mathlib.Core.List.{[], _∷_}
 use Prim.Native.Nat.{ℕ}
-use Rattle.pyramid.specs.Calls.{leaves}
+use Rattle.pyramid.specs.Definitions.Calls.{leaves}
 use Rattle.pyramid.proofs.Refusals.{leaves-new, leaves-kept}
 use Rattle.bale.specs.declared.Note.{Note}
 use Rattle.bale.specs.declared.Code.{Code}
-use Rattle.bale.specs.Readings.{codeOf}
-use Rattle.lepsarvu.specs.Exports.{kindsOf, numbersOf}
+use Rattle.bale.specs.Definitions.Readings.{codeOf}
+use Rattle.lepsarvu.specs.Definitions.Exports.{kindsOf, numbersOf}
 
 module _ {A B : Type 0} (refusal : A → ℕ) (field : A → B) {answer is : A} (e : answer ≡ is) (old : B) where
   pub given : refusal answer ≡ 0 → (refusal answer ≡ refusal is) × (field answer ≡ leaves (refusal answer) (field is) old)

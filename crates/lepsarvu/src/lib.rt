@@ -7,11 +7,11 @@ use pyramid::Settings;
 ghost use mathlib.Core.Path.{_≡_};
 ghost use mathlib.Core.List.{[], _∷_};
 ghost use lib.ListN.{length};
-ghost use Rattle.pyramid.specs.Calls.{leaves, coding, rebuilding};
-ghost use Rattle.pyramid.specs.Answers.{nodesAnswer, boundsAnswer, deepestAnswer};
-ghost use Rattle.pyramid.specs.Refusals.{first, settingsRefusal};
-ghost use Rattle.bale.specs.Calls.{sizeAnswer, checking, reading};
-ghost use Rattle.lepsarvu.specs.Exports.{settingsOf, shapeOf, kindsOf, numbersOf, codedRefusal, codedFile, codedSize};
+ghost use Rattle.pyramid.specs.Definitions.Calls.{leaves, coding, rebuilding};
+ghost use Rattle.pyramid.specs.Definitions.Answers.{nodesAnswer, boundsAnswer, deepestAnswer};
+ghost use Rattle.pyramid.specs.Definitions.Refusals.{first, settingsRefusal};
+ghost use Rattle.bale.specs.Definitions.Calls.{sizeAnswer, checking, reading};
+ghost use Rattle.lepsarvu.specs.Definitions.Exports.{settingsOf, shapeOf, kindsOf, numbersOf, codedRefusal, codedFile, codedSize};
 
 fn settings(columns: u16, rows: u16, depth: u16, kernel: u16, bins: [u16; 7]) -> Settings
     ensures { λ r. ⌜ r ≡ settingsOf columns rows depth kernel bins ⌝ }

@@ -7,8 +7,8 @@ use native.Mathlib.Decide.{decLt}
 use native.Mathlib.Omega.{arith}
 use lib.ListN.{length, getD, take, drop, length-take, List·getD-append, List·getD-eq-default, replicate, length-replicate, getD-replicate}
 use lib.Seq.{getD-append-add, getD-take, getD-drop}
-use Rattle.mathematics.specs.Tables.{tabulate}
-use Rattle.mathematics.specs.Splices.{splice}
+use Rattle.mathematics.specs.Definitions.Tables.{tabulate}
+use Rattle.mathematics.specs.Inner.Splices.{splice}
 use Rattle.mathematics.proofs.Tables.{length-tabulate, getD-tabulate}
 
 module _ {ℓ ℓ′} {A : Type ℓ} (P : A → Type ℓ′) (d : A) where

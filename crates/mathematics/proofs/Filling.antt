@@ -6,8 +6,8 @@ use native.Mathlib.Nat.{zero-add}
 use native.Mathlib.Numerals.{add-one}
 use native.Mathlib.Omega.{arith}
 use lib.ListN.{length, getD, set, length-set}
-use Rattle.mathematics.specs.Splices.{splice}
-use Rattle.mathematics.specs.Tables.{tabulate}
+use Rattle.mathematics.specs.Inner.Splices.{splice}
+use Rattle.mathematics.specs.Definitions.Tables.{tabulate}
 use Rattle.mathematics.proofs.Tables.{length-tabulate, getD-tabulate, tabulate-same, tabulate-add}
 use Rattle.mathematics.proofs.Splices.{getD-splice, splice-nil, splice-set, splice-append, splice-over}
 

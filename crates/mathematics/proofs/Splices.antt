@@ -8,7 +8,7 @@ use native.Mathlib.Numerals.{add-one}
 use native.Mathlib.Omega.{arith}
 use lib.ListN.{length, getD, take, drop, set, length-append, length-drop, take-append-drop, List·getD-append, drop-of-length-le}
 use lib.Seq.{length-take-le, take-append-le, take-take, take-nil, drop-drop, take-at, drop-at, set-split, getD-append-add, getD-take, getD-drop}
-use Rattle.mathematics.specs.Splices.{splice, part}
+use Rattle.mathematics.specs.Inner.Splices.{splice, part}
 
 module _ {ℓ} {A : Type ℓ} where
   pub length-splice : (at : ℕ) (xs l : List A) → at + length xs ≤ length l → length (splice at xs l) ≡ length l

@@ -4,7 +4,7 @@ use Prim.Native.Nat.{ℕ, zero, suc, _+_, _*_, _-_, _≤_, _<_}
 use native.Mathlib.Nat.{mul-zero, zero-mul, mul-add, add-mul, add-zero, add-suc, le-refl}
 use native.Mathlib.Omega.{arith}
 use lib.IntN.{ℤ, pos, natAbs, _+ℤ_, _*ℤ_, *ℤ-zero}
-use Rattle.mathematics.specs.Sums.{sum}
+use Rattle.mathematics.specs.Definitions.Sums.{sum}
 use Rattle.mathematics.proofs.Integers.{ints, all₄}
 use Rattle.mathematics.proofs.IntegerLaws.{*ℤ-+ℤ, abs-sum}
 use Rattle.mathematics.proofs.Distance.{Near, near-refl, near-add}

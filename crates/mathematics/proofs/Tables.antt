@@ -10,8 +10,8 @@ use native.Mathlib.Omega.{arith}
 use lib.Dec.{T}
 use lib.ListN.{length, getD, set, replicate, replicate-append-replicate, length-append, length-set, length-map, List·getD-append, List·getD-map}
 use lib.Seq.{getD-at, getD-set-same, getD-set-other, ext-getD}
-use Rattle.mathematics.specs.Tests.{all}
-use Rattle.mathematics.specs.Tables.{tabulate}
+use Rattle.mathematics.specs.Definitions.Tests.{all}
+use Rattle.mathematics.specs.Definitions.Tables.{tabulate}
 use Rattle.mathematics.proofs.Tests.{all-append, all-front, all-back, both, both-of}
 
 module _ {ℓ} {A : Type ℓ} where

@@ -11,7 +11,7 @@ use native.Mathlib.Omega.{arith}
 use lib.Dec.{T}
 use lib.ListN.{length, getD, drop, drop-of-length-le}
 use lib.Seq.{drop-cons}
-use Rattle.mathematics.specs.Tests.{allBelow, all}
+use Rattle.mathematics.specs.Definitions.Tests.{allBelow, all}
 
 pub both : (a b : Bool) → T (a && b) → T a × T b
 both true b t = (tt, t)

@@ -1,4 +1,2 @@
-pub mod Sums
-pub mod Tests
-pub mod Tables
-pub mod Splices
+pub mod Definitions
+pub mod Inner

@@ -9,17 +9,17 @@ use lib.IntN.{ℤ, pos, negsuc}
 use lib.ListN.{length, getD, List·getD-eq-default}
 use Rattle.mathematics.proofs.Distance.{Near, near-pos, near-negative}
 use Rattle.pyramid.specs.declared.Settings.{Settings}
-use Rattle.pyramid.specs.Sizes.{Level, last}
-use Rattle.pyramid.specs.Pyramid.{average, index}
-use Rattle.pyramid.specs.Rebuilding.{rebuilt, clamp}
-use Rattle.pyramid.specs.Bound.{boundAt}
-use Rattle.pyramid.specs.Buffers.{Bytes, raster, pixels, readLevels}
-use Rattle.pyramid.specs.Calls.{leaves, coding, rebuilding}
-use Rattle.pyramid.specs.Generations.{Generation, coded, rebuiltFrom, outcome, leftBy, countedBound, atHand, boundSum}
-use Rattle.pyramid.specs.Accuracy.{distance, LevelsWithin, Accuracy}
+use Rattle.pyramid.specs.Definitions.Sizes.{Level, last}
+use Rattle.pyramid.specs.Definitions.Pyramid.{average, index}
+use Rattle.pyramid.specs.Definitions.Rebuilding.{rebuilt, clamp}
+use Rattle.pyramid.specs.Definitions.Bound.{boundAt}
+use Rattle.pyramid.specs.Definitions.Buffers.{Bytes, raster, pixels, readLevels}
+use Rattle.pyramid.specs.Definitions.Calls.{leaves, coding, rebuilding}
+use Rattle.pyramid.specs.Definitions.Generations.{Generation, coded, rebuiltFrom, outcome, leftBy, countedBound, atHand, boundSum}
+use Rattle.pyramid.specs.Theorems.Accuracy.{distance, LevelsWithin, Accuracy}
 use Rattle.pyramid.proofs.Sizes.{last-zero}
 use Rattle.pyramid.proofs.Within.{NearAt, within}
-use Rattle.pyramid.specs.Accepted.{Accepted}
+use Rattle.pyramid.specs.Inner.Accepted.{Accepted}
 use Rattle.pyramid.proofs.Refusals.{first-none, accepted-coding, leaves-new}
 use Rattle.pyramid.proofs.Buffers.{length-raster, raster-at, by-place, read-stack}
 

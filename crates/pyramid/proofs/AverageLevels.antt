@@ -5,15 +5,15 @@ use Prim.Native.Nat.{ℕ, suc, _≤_, _<_}
 use native.Mathlib.Omega.{arith}
 use lib.IntN.{ℤ}
 use lib.ListN.{length}
-use Rattle.mathematics.specs.Splices.{splice}
+use Rattle.mathematics.specs.Inner.Splices.{splice}
 use Rattle.pyramid.specs.declared.Settings.{Settings}
-use Rattle.pyramid.specs.Lawful.{Lawful}
-use Rattle.pyramid.specs.Sizes.{Level, columnsAt, rowsAt, total}
-use Rattle.pyramid.specs.Pyramid.{reduced, average}
-use Rattle.pyramid.specs.Buffers.{levelRaster, allLevels, start, readLevels}
-use Rattle.pyramid.specs.Refusals.{limit}
-use Rattle.pyramid.specs.Ranges.{CodingRanges}
-use Rattle.pyramid.specs.Layers.{LevelSmall}
+use Rattle.pyramid.specs.Inner.Lawful.{Lawful}
+use Rattle.pyramid.specs.Definitions.Sizes.{Level, columnsAt, rowsAt, total}
+use Rattle.pyramid.specs.Definitions.Pyramid.{reduced, average}
+use Rattle.pyramid.specs.Definitions.Buffers.{levelRaster, allLevels, start, readLevels}
+use Rattle.pyramid.specs.Definitions.Refusals.{limit}
+use Rattle.pyramid.specs.Theorems.Ranges.{CodingRanges}
+use Rattle.pyramid.specs.Inner.Layers.{LevelSmall}
 use Rattle.pyramid.proofs.Buffers.{raster-same}
 use Rattle.pyramid.proofs.LevelPlaces.{placed, length-placed, placed-first, placed-next, read-placed, placed-all}
 use Rattle.pyramid.proofs.LevelSteps.{reduced-same}

@@ -8,15 +8,15 @@ use native.Mathlib.Omega.{arith}
 use borrow.Author.Tests.{le-leb, lt-leb}
 use lib.Dec.{leb, leb→le, le→leb, leb·zero}
 use lib.ListN.{replicate, set}
-use Rattle.mathematics.specs.Tests.{allBelow}
-use Rattle.mathematics.specs.Tables.{tabulate}
+use Rattle.mathematics.specs.Definitions.Tests.{allBelow}
+use Rattle.mathematics.specs.Definitions.Tables.{tabulate}
 use Rattle.mathematics.proofs.Tests.{below-at, cond-elim, same-test}
 use Rattle.mathematics.proofs.Tables.{tabulate-same, tabulate-constant, set-tabulate}
 use Rattle.pyramid.specs.declared.Settings.{Settings}
-use Rattle.pyramid.specs.Settings.{bin}
-use Rattle.pyramid.specs.Bound.{magnified, tolerance, bound, boundAt}
-use Rattle.pyramid.specs.Lawful.{Lawful}
-use Rattle.pyramid.specs.Answers.{boundSlots}
+use Rattle.pyramid.specs.Definitions.Settings.{bin}
+use Rattle.pyramid.specs.Definitions.Bound.{magnified, tolerance, bound, boundAt}
+use Rattle.pyramid.specs.Inner.Lawful.{Lawful}
+use Rattle.pyramid.specs.Definitions.Answers.{boundSlots}
 use Rattle.pyramid.proofs.Ranges.{most-magnified}
 
 -- ---- the highest bounds

@@ -10,14 +10,14 @@ use lib.Dec.{T}
 use lib.IntN.{ℤ, pos}
 use lib.ListN.{length, getD, length-append, List·getD-append}
 use lib.Seq.{getD-append-add}
-use Rattle.mathematics.specs.Tests.{all}
-use Rattle.mathematics.specs.Tables.{tabulate}
+use Rattle.mathematics.specs.Definitions.Tests.{all}
+use Rattle.mathematics.specs.Definitions.Tables.{tabulate}
 use Rattle.mathematics.proofs.Tests.{all-nil, all-append, all-front, all-back}
 use Rattle.mathematics.proofs.Tables.{length-tabulate, getD-tabulate, tabulate-same, all-tabulate, tabulate-all}
 use Rattle.pyramid.specs.declared.Settings.{Settings}
-use Rattle.pyramid.specs.Sizes.{Level, columnsAt, rowsAt, nodesAt, nodesTo, total}
-use Rattle.pyramid.specs.Rows.{Source}
-use Rattle.pyramid.specs.Buffers.{raster, levelRaster, stack, allLevels, start, readLevels}
+use Rattle.pyramid.specs.Definitions.Sizes.{Level, columnsAt, rowsAt, nodesAt, nodesTo, total}
+use Rattle.pyramid.specs.Inner.Rows.{Source}
+use Rattle.pyramid.specs.Definitions.Buffers.{raster, levelRaster, stack, allLevels, start, readLevels}
 use Rattle.pyramid.proofs.Sizes.{nodesTo-mono}
 
 -- ---- a raster

@@ -9,13 +9,13 @@ use lib.Dec.{leb}
 use lib.IntN.{ℤ, natAbs}
 use lib.ListN.{length, take, drop}
 use lib.Seq.{drop-drop}
-use Rattle.mathematics.specs.Tests.{all}
+use Rattle.mathematics.specs.Definitions.Tests.{all}
 use Rattle.pyramid.specs.declared.Settings.{Settings}
-use Rattle.pyramid.specs.Settings.{bin}
-use Rattle.pyramid.specs.Sizes.{Level, columnsAt, rowsAt, nodesAt, total}
-use Rattle.pyramid.specs.Buffers.{levelRaster, stack, start, readLevels}
-use Rattle.pyramid.specs.Rebuilding.{valueOf}
-use Rattle.pyramid.specs.Refusals.{limit, indexOk, valuesOk}
+use Rattle.pyramid.specs.Definitions.Settings.{bin}
+use Rattle.pyramid.specs.Definitions.Sizes.{Level, columnsAt, rowsAt, nodesAt, total}
+use Rattle.pyramid.specs.Definitions.Buffers.{levelRaster, stack, start, readLevels}
+use Rattle.pyramid.specs.Definitions.Rebuilding.{valueOf}
+use Rattle.pyramid.specs.Definitions.Refusals.{limit, indexOk, valuesOk}
 use Rattle.mathematics.proofs.Tests.{all-map, all-joined}
 use Rattle.pyramid.proofs.LevelParts.{start-top, start-below, level-part, map-raster}
 

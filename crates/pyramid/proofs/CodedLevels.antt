@@ -9,14 +9,14 @@ use lib.Dec.{T, leb, le→leb}
 use lib.IntN.{ℤ, natAbs}
 use lib.ListN.{length}
 use Rattle.pyramid.specs.declared.Settings.{Settings}
-use Rattle.pyramid.specs.Sizes.{columnsAt, rowsAt, total}
-use Rattle.pyramid.specs.Pyramid.{index}
-use Rattle.pyramid.specs.Rebuilding.{valueOf}
-use Rattle.pyramid.specs.Buffers.{Bytes, pixels, allLevels, readLevels}
-use Rattle.pyramid.specs.Refusals.{unless, first, limit, settingsRefusal, buffersRefusal, valuesOk, codingRefusal}
-use Rattle.pyramid.specs.Calls.{coding, rebuilding}
-use Rattle.pyramid.specs.Ranges.{CodingRanges}
-use Rattle.pyramid.specs.Accepted.{Accepted}
+use Rattle.pyramid.specs.Definitions.Sizes.{columnsAt, rowsAt, total}
+use Rattle.pyramid.specs.Definitions.Pyramid.{index}
+use Rattle.pyramid.specs.Definitions.Rebuilding.{valueOf}
+use Rattle.pyramid.specs.Definitions.Buffers.{Bytes, pixels, allLevels, readLevels}
+use Rattle.pyramid.specs.Definitions.Refusals.{unless, first, limit, settingsRefusal, buffersRefusal, valuesOk, codingRefusal}
+use Rattle.pyramid.specs.Definitions.Calls.{coding, rebuilding}
+use Rattle.pyramid.specs.Theorems.Ranges.{CodingRanges}
+use Rattle.pyramid.specs.Inner.Accepted.{Accepted}
 use Rattle.pyramid.proofs.Refusals.{first-none, accepted-coding, rebuilding-lengths, leaves-new}
 use Rattle.pyramid.proofs.Buffers.{length-all, read-stack, all-stack}
 use Rattle.pyramid.proofs.Ranges.{coding-ranges}

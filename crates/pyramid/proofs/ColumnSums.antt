@@ -5,12 +5,12 @@ use Prim.Native.Nat.{ℕ, _+_, _*_}
 use native.Mathlib.Omega.{arith}
 use lib.IntN.{ℤ, pos, _+ℤ_, _*ℤ_}
 use lib.ListN.{getD}
-use Rattle.mathematics.specs.Sums.{sum}
+use Rattle.mathematics.specs.Definitions.Sums.{sum}
 use Rattle.mathematics.proofs.Integers.{ints, all₅}
 use Rattle.mathematics.proofs.IntegerLaws.{*ℤ-+ℤ}
 use Rattle.mathematics.proofs.Held.{held, held-is}
-use Rattle.pyramid.specs.Weights.{weight}
-use Rattle.pyramid.specs.Rows.{asLevel, columnSum, Within, Small}
+use Rattle.pyramid.specs.Definitions.Weights.{weight}
+use Rattle.pyramid.specs.Inner.Rows.{asLevel, columnSum, Within, Small}
 use Rattle.pyramid.proofs.Weights.{weight-symmetric}
 use Rattle.pyramid.proofs.TapSums.{within-fits}
 

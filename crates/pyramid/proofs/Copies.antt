@@ -11,11 +11,11 @@ use mir.Syntax.{w8, w16, w32}
 use mir.Val.{Fits, SFits}
 use Rattle.mathematics.proofs.Held.{held, held-is, natural-fits, short, short-is, widened}
 use Rattle.mathematics.proofs.IntegerLaws.{fits-by, abs-of-fits, abs-sum, abs-minus, abs-product, abs-between, abs-below, abs-above, ltZ-true, ltZ-false}
-use Rattle.quantizer.specs.Bins.{binIndex}
+use Rattle.quantizer.specs.Definitions.Bins.{binIndex}
 use Rattle.pyramid.specs.declared.Settings.{Settings}
-use Rattle.pyramid.specs.Refusals.{limit, indexOk}
-use Rattle.pyramid.specs.Rebuilding.{clamp}
-use Rattle.pyramid.specs.Rows.{Within}
+use Rattle.pyramid.specs.Definitions.Refusals.{limit, indexOk}
+use Rattle.pyramid.specs.Definitions.Rebuilding.{clamp}
+use Rattle.pyramid.specs.Inner.Rows.{Within}
 use Rattle.pyramid.proofs.TapSums.{within-fits}
 
 -- ---- what a value is clamped to

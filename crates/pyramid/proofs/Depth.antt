@@ -11,8 +11,8 @@ use lib.Count.{trailingZeros, under}
 use lib.Dec.{T, leb, eqb, leb·zero, leb·suc-zero, leb·suc-suc, leb→le, le→leb, T-not}
 use lib.Pow.{mod-pow-add}
 use Rattle.mathematics.proofs.Tests.{both, both-of, cond-elim, same-test}
-use Rattle.pyramid.specs.Settings.{depthOk, divides}
-use Rattle.pyramid.specs.Depth.{largest, allows, deepest}
+use Rattle.pyramid.specs.Definitions.Settings.{depthOk, divides}
+use Rattle.pyramid.specs.Definitions.Depth.{largest, allows, deepest}
 
 -- ---- a trailing-zero count is a test of divisibility
 

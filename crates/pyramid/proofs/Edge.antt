@@ -2,8 +2,8 @@
 use mathlib.Core.Path.{_≡_}
 use Prim.Native.Nat.{ℕ, _+_, _-_, _*_, _/_, _≤_, _<_}
 use native.Mathlib.Omega.{arith}
-use Rattle.pyramid.specs.Edge.{reflect}
-use Rattle.pyramid.specs.Steps.{halved}
+use Rattle.pyramid.specs.Definitions.Edge.{reflect}
+use Rattle.pyramid.specs.Definitions.Steps.{halved}
 
 -- column -1 is column 1, -2 is 2; past the last column z, z + 1 is z - 1 and z + 2 is z - 2; the others are themselves
 pub record Reflects (z : ℕ) : Type 0 where

@@ -6,15 +6,15 @@ use native.Mathlib.Nat.{le-trans}
 use native.Mathlib.Omega.{arith}
 use lib.IntN.{ℤ, pos, _*ℤ_}
 use lib.ListN.{replicate}
-use Rattle.mathematics.specs.Tables.{tabulate}
-use Rattle.mathematics.specs.Splices.{splice}
+use Rattle.mathematics.specs.Definitions.Tables.{tabulate}
+use Rattle.mathematics.specs.Inner.Splices.{splice}
 use Rattle.mathematics.proofs.Sums.{sum-same}
 use Rattle.mathematics.proofs.Filling.{getD-written}
-use Rattle.quantizer.specs.Rounding.{roundDiv}
-use Rattle.pyramid.specs.Lawful.{Kernel}
-use Rattle.pyramid.specs.Edge.{reflect}
-use Rattle.pyramid.specs.Steps.{evenWeight, halved, expand}
-use Rattle.pyramid.specs.Rows.{asLevel, columnSum, Within, Small, Source}
+use Rattle.quantizer.specs.Definitions.Rounding.{roundDiv}
+use Rattle.pyramid.specs.Inner.Lawful.{Kernel}
+use Rattle.pyramid.specs.Definitions.Edge.{reflect}
+use Rattle.pyramid.specs.Definitions.Steps.{evenWeight, halved, expand}
+use Rattle.pyramid.specs.Inner.Rows.{asLevel, columnSum, Within, Small, Source}
 use Rattle.pyramid.proofs.Weights.{even-size, reach-most}
 use Rattle.pyramid.proofs.Windows.{window-columns}
 use Rattle.pyramid.proofs.Edge.{expand-inside}

@@ -7,14 +7,14 @@ use lib.IntN.{ℤ, pos, _+ℤ_, _*ℤ_}
 use lib.ListN.{getD}
 use mir.Syntax.{w32}
 use mir.Val.{SFits}
-use Rattle.mathematics.specs.Sums.{sum}
+use Rattle.mathematics.specs.Definitions.Sums.{sum}
 use Rattle.mathematics.proofs.Integers.{ints, all₁, all₅}
 use Rattle.mathematics.proofs.IntegerLaws.{*ℤ-+ℤ, abs-product, fits-by}
 use Rattle.mathematics.proofs.Held.{held, held-is}
-use Rattle.quantizer.specs.Rounding.{roundDiv}
-use Rattle.pyramid.specs.Weights.{weight}
-use Rattle.pyramid.specs.Edge.{reflect}
-use Rattle.pyramid.specs.Steps.{evenWeight, halved}
+use Rattle.quantizer.specs.Definitions.Rounding.{roundDiv}
+use Rattle.pyramid.specs.Definitions.Weights.{weight}
+use Rattle.pyramid.specs.Definitions.Edge.{reflect}
+use Rattle.pyramid.specs.Definitions.Steps.{evenWeight, halved}
 use Rattle.pyramid.proofs.Weights.{weight-symmetric, even-parity}
 use Rattle.pyramid.proofs.TapSums.{within-fits, within-held, Value, Weight, three-small}
 use Rattle.pyramid.proofs.ColumnSums.{weight-is}

@@ -6,12 +6,12 @@ use native.Mathlib.Numerals.{add-one}
 use native.Mathlib.Omega.{arith}
 use lib.IntN.{ℤ}
 use lib.ListN.{length}
-use Rattle.mathematics.specs.Splices.{splice}
+use Rattle.mathematics.specs.Inner.Splices.{splice}
 use Rattle.mathematics.proofs.Splices.{splice-whole}
 use Rattle.pyramid.specs.declared.Settings.{Settings}
-use Rattle.pyramid.specs.Sizes.{Level, total}
-use Rattle.pyramid.specs.Buffers.{levelRaster, stack, allLevels, start, readLevels}
-use Rattle.pyramid.specs.Layers.{indexAt, IndexLevel, Holds}
+use Rattle.pyramid.specs.Definitions.Sizes.{Level, total}
+use Rattle.pyramid.specs.Definitions.Buffers.{levelRaster, stack, allLevels, start, readLevels}
+use Rattle.pyramid.specs.Inner.Layers.{indexAt, IndexLevel, Holds}
 use Rattle.pyramid.proofs.Buffers.{length-stack}
 use Rattle.pyramid.proofs.LevelPlaces.{placed, length-placed, placed-next, placed-all}
 

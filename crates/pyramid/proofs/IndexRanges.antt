@@ -11,13 +11,13 @@ use lib.ListN.{length, getD, drop}
 use lib.Signed.{_≤ℤ_, ltZ, ltZ-yes, ltZ-no, ≤ℤ-refl}
 use mir.Syntax.{w16}
 use mir.Val.{SFits}
-use Rattle.mathematics.specs.Tests.{all}
+use Rattle.mathematics.specs.Definitions.Tests.{all}
 use Rattle.mathematics.proofs.Held.{short, short-is}
 use Rattle.mathematics.proofs.IntegerLaws.{≤ℤ-trans, <ℤ-≤ℤ, *ℤ-mono, abs-between}
 use Rattle.mathematics.proofs.Tests.{both, both-of, same-test, cond-elim, all-next, all-past}
 use Rattle.pyramid.specs.declared.IndexRange.{IndexRange}
-use Rattle.pyramid.specs.Refusals.{limit, indexOk}
-use Rattle.pyramid.specs.IndexRanges.{lesser, greater, widened, rangeOk}
+use Rattle.pyramid.specs.Definitions.Refusals.{limit, indexOk}
+use Rattle.pyramid.specs.Definitions.IndexRanges.{lesser, greater, widened, rangeOk}
 
 -- ---- the order of the lesser and the greater
 

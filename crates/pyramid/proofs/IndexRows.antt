@@ -6,19 +6,19 @@ use native.Mathlib.Nat.{le-trans}
 use native.Mathlib.Omega.{arith}
 use lib.IntN.{ℤ, pos, _-ℤ_}
 use lib.ListN.{length, getD}
-use Rattle.mathematics.specs.Splices.{splice}
-use Rattle.mathematics.specs.Tables.{tabulate}
+use Rattle.mathematics.specs.Inner.Splices.{splice}
+use Rattle.mathematics.specs.Definitions.Tables.{tabulate}
 use Rattle.mathematics.proofs.Tables.{tabulate-same}
 use Rattle.mathematics.proofs.Filling.{getD-written}
-use Rattle.quantizer.specs.Bins.{binIndex}
+use Rattle.quantizer.specs.Definitions.Bins.{binIndex}
 use Rattle.pyramid.specs.declared.Settings.{Settings}
-use Rattle.pyramid.specs.Settings.{bin}
-use Rattle.pyramid.specs.Sizes.{columnsAt, rowsAt}
-use Rattle.pyramid.specs.Pyramid.{indexOf}
-use Rattle.pyramid.specs.Buffers.{start, readLevels}
-use Rattle.pyramid.specs.Refusals.{limit}
-use Rattle.pyramid.specs.Rows.{Small, IndicesWithin}
-use Rattle.pyramid.specs.Layers.{predicted, indexAt, LevelSmall, IndexLevel}
+use Rattle.pyramid.specs.Definitions.Settings.{bin}
+use Rattle.pyramid.specs.Definitions.Sizes.{columnsAt, rowsAt}
+use Rattle.pyramid.specs.Definitions.Pyramid.{indexOf}
+use Rattle.pyramid.specs.Definitions.Buffers.{start, readLevels}
+use Rattle.pyramid.specs.Definitions.Refusals.{limit}
+use Rattle.pyramid.specs.Inner.Rows.{Small, IndicesWithin}
+use Rattle.pyramid.specs.Inner.Layers.{predicted, indexAt, LevelSmall, IndexLevel}
 use Rattle.pyramid.proofs.Rendering.{Rendering, rendering-next}
 use Rattle.pyramid.proofs.LevelParts.{level-inside}
 use Rattle.pyramid.proofs.TapSums.{within-more}

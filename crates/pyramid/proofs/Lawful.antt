@@ -7,8 +7,8 @@ use borrow.Author.Tests.{lt-leb}
 use lib.Dec.{T, leb, eqb, leb→le, eqb→eq, le→leb}
 use Rattle.mathematics.proofs.Tests.{both, then, below-at}
 use Rattle.pyramid.specs.declared.Settings.{Settings}
-use Rattle.pyramid.specs.Lawful.{Side, Bin, Shaped, Lawful}
-use Rattle.pyramid.specs.Settings.{sideOk, depthOk, divides, kernelOk, bin, slotOk, sizeOk, binsOk}
+use Rattle.pyramid.specs.Inner.Lawful.{Side, Bin, Shaped, Lawful}
+use Rattle.pyramid.specs.Definitions.Settings.{sideOk, depthOk, divides, kernelOk, bin, slotOk, sizeOk, binsOk}
 
 side-law : (side depth : ℕ) → T (sideOk side) → T (divides depth side) → Side side depth
 unfolding sideOk divides

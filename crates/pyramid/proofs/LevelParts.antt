@@ -9,15 +9,15 @@ use native.Mathlib.Omega.{arith}
 use lib.IntN.{ℤ, pos}
 use lib.ListN.{length, getD}
 use lib.Seq.{ext-getD}
-use Rattle.mathematics.specs.Tests.{all}
-use Rattle.mathematics.specs.Tables.{tabulate}
-use Rattle.mathematics.specs.Splices.{part}
+use Rattle.mathematics.specs.Definitions.Tests.{all}
+use Rattle.mathematics.specs.Definitions.Tables.{tabulate}
+use Rattle.mathematics.specs.Inner.Splices.{part}
 use Rattle.mathematics.proofs.Tables.{map-tabulate}
 use Rattle.mathematics.proofs.Splices.{part-long, getD-part}
 use Rattle.mathematics.proofs.Tests.{all-joined}
 use Rattle.pyramid.specs.declared.Settings.{Settings}
-use Rattle.pyramid.specs.Sizes.{Level, columnsAt, rowsAt, nodesAt, nodesTo, total}
-use Rattle.pyramid.specs.Buffers.{raster, levelRaster, stack, start, readLevels}
+use Rattle.pyramid.specs.Definitions.Sizes.{Level, columnsAt, rowsAt, nodesAt, nodesTo, total}
+use Rattle.pyramid.specs.Definitions.Buffers.{raster, levelRaster, stack, start, readLevels}
 use Rattle.pyramid.proofs.Sizes.{nodesTo-mono}
 use Rattle.pyramid.proofs.Buffers.{inside, length-raster, raster-at, by-place}
 

@@ -7,12 +7,12 @@ use native.Mathlib.Omega.{arith}
 use lib.IntN.{ℤ, pos}
 use lib.ListN.{length, take, drop}
 use lib.Seq.{length-take-le, take-all, take-add, getD-take}
-use Rattle.mathematics.specs.Splices.{splice, part}
+use Rattle.mathematics.specs.Inner.Splices.{splice, part}
 use Rattle.mathematics.proofs.Splices.{length-splice, getD-splice, splice-nil, splice-append, splice-part, splice-prepend, splice-front}
 use Rattle.pyramid.specs.declared.Settings.{Settings}
-use Rattle.pyramid.specs.Sizes.{Level, columnsAt, rowsAt, nodesAt, nodesTo, total}
-use Rattle.pyramid.specs.Buffers.{levelRaster, stack, allLevels, start, readLevels}
-use Rattle.pyramid.specs.Calls.{inWork}
+use Rattle.pyramid.specs.Definitions.Sizes.{Level, columnsAt, rowsAt, nodesAt, nodesTo, total}
+use Rattle.pyramid.specs.Definitions.Buffers.{levelRaster, stack, allLevels, start, readLevels}
+use Rattle.pyramid.specs.Definitions.Calls.{inWork}
 use Rattle.pyramid.proofs.Sizes.{nodesTo-mono}
 use Rattle.pyramid.proofs.LevelParts.{start-room, start-top, start-below, start-bottom, least-nodes, level-inside, level-part}
 use Rattle.pyramid.proofs.Buffers.{inside, length-raster, raster-same, length-stack, length-all, stack-node, read-stack}

@@ -5,19 +5,19 @@ use Prim.Native.Nat.{ℕ, suc, _+_, _-_, _*_, _/_, _≤_, _<_}
 use native.Mathlib.Omega.{arith}
 use lib.IntN.{ℤ, pos}
 use lib.ListN.{length}
-use Rattle.mathematics.specs.Splices.{splice, part}
+use Rattle.mathematics.specs.Inner.Splices.{splice, part}
 use Rattle.mathematics.proofs.Distance.{Near, near-same, same-near}
 use Rattle.pyramid.specs.declared.Settings.{Settings}
-use Rattle.pyramid.specs.Lawful.{Kernel, Lawful}
-use Rattle.pyramid.specs.Sizes.{Level, last, columnsAt, rowsAt, nodesAt, total}
-use Rattle.pyramid.specs.Steps.{reduce, expand}
-use Rattle.pyramid.specs.Pyramid.{reduced, expanded}
-use Rattle.pyramid.specs.Bound.{magnified}
-use Rattle.pyramid.specs.Buffers.{raster, levelRaster, start, readLevels}
-use Rattle.pyramid.specs.Refusals.{limit}
-use Rattle.pyramid.specs.Rows.{asLevel, Small, Source, halvedNodes, Reducible}
-use Rattle.pyramid.specs.Ranges.{EachNode}
-use Rattle.pyramid.specs.Layers.{LevelSmall}
+use Rattle.pyramid.specs.Inner.Lawful.{Kernel, Lawful}
+use Rattle.pyramid.specs.Definitions.Sizes.{Level, last, columnsAt, rowsAt, nodesAt, total}
+use Rattle.pyramid.specs.Definitions.Steps.{reduce, expand}
+use Rattle.pyramid.specs.Definitions.Pyramid.{reduced, expanded}
+use Rattle.pyramid.specs.Definitions.Bound.{magnified}
+use Rattle.pyramid.specs.Definitions.Buffers.{raster, levelRaster, start, readLevels}
+use Rattle.pyramid.specs.Definitions.Refusals.{limit}
+use Rattle.pyramid.specs.Inner.Rows.{asLevel, Small, Source, halvedNodes, Reducible}
+use Rattle.pyramid.specs.Theorems.Ranges.{EachNode}
+use Rattle.pyramid.specs.Inner.Layers.{LevelSmall}
 use Rattle.pyramid.proofs.Sizes.{last-suc, last-most, last-least, last-even}
 use Rattle.pyramid.proofs.Steps.{near-reduce, near-expand}
 use Rattle.pyramid.proofs.Buffers.{raster-at, raster-same}

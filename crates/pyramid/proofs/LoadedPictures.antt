@@ -5,17 +5,17 @@ use Prim.Native.Nat.{ℕ, suc, _+_, _*_, _≤_}
 use native.Mathlib.Omega.{arith}
 use lib.IntN.{ℤ, pos}
 use lib.ListN.{length, length-append, length-map, List·getD-map}
-use Rattle.mathematics.specs.Splices.{splice}
+use Rattle.mathematics.specs.Inner.Splices.{splice}
 use Rattle.mathematics.proofs.Splices.{getD-splice, splice-over}
 use Rattle.pyramid.specs.declared.Settings.{Settings}
-use Rattle.pyramid.specs.Accepted.{Accepted}
-use Rattle.pyramid.specs.Sizes.{Level, columnsAt, rowsAt, total}
-use Rattle.pyramid.specs.Pyramid.{average, index}
-use Rattle.pyramid.specs.Buffers.{Bytes, pixels, allLevels, start, readLevels}
-use Rattle.pyramid.specs.Calls.{inWork}
-use Rattle.pyramid.specs.Refusals.{limit}
-use Rattle.pyramid.specs.Ranges.{EachNode, CodingRanges}
-use Rattle.pyramid.specs.Layers.{indexAt, LevelSmall, Holds}
+use Rattle.pyramid.specs.Inner.Accepted.{Accepted}
+use Rattle.pyramid.specs.Definitions.Sizes.{Level, columnsAt, rowsAt, total}
+use Rattle.pyramid.specs.Definitions.Pyramid.{average, index}
+use Rattle.pyramid.specs.Definitions.Buffers.{Bytes, pixels, allLevels, start, readLevels}
+use Rattle.pyramid.specs.Definitions.Calls.{inWork}
+use Rattle.pyramid.specs.Definitions.Refusals.{limit}
+use Rattle.pyramid.specs.Theorems.Ranges.{EachNode, CodingRanges}
+use Rattle.pyramid.specs.Inner.Layers.{indexAt, LevelSmall, Holds}
 use Rattle.pyramid.proofs.Buffers.{inside, length-all, stack-same}
 use Rattle.pyramid.proofs.LevelParts.{start-bottom}
 use Rattle.pyramid.proofs.LevelPlaces.{front-all, read-front}

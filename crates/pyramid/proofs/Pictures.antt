@@ -5,14 +5,14 @@ use Prim.Native.Nat.{ℕ, _+_, _*_, _≤_}
 use native.Mathlib.Omega.{arith}
 use lib.IntN.{ℤ}
 use lib.ListN.{length}
-use Rattle.mathematics.specs.Splices.{part}
+use Rattle.mathematics.specs.Inner.Splices.{part}
 use Rattle.mathematics.proofs.Splices.{part-long}
 use Rattle.pyramid.specs.declared.Settings.{Settings}
-use Rattle.pyramid.specs.Lawful.{Lawful}
-use Rattle.pyramid.specs.Sizes.{Level, columnsAt, rowsAt, total}
-use Rattle.pyramid.specs.Rebuilding.{clamp}
-use Rattle.pyramid.specs.Buffers.{raster, levelRaster, start, readLevels}
-use Rattle.pyramid.specs.Calls.{inWork}
+use Rattle.pyramid.specs.Inner.Lawful.{Lawful}
+use Rattle.pyramid.specs.Definitions.Sizes.{Level, columnsAt, rowsAt, total}
+use Rattle.pyramid.specs.Definitions.Rebuilding.{clamp}
+use Rattle.pyramid.specs.Definitions.Buffers.{raster, levelRaster, start, readLevels}
+use Rattle.pyramid.specs.Definitions.Calls.{inWork}
 use Rattle.pyramid.proofs.Sizes.{count-zero}
 use Rattle.pyramid.proofs.Buffers.{raster-same}
 use Rattle.pyramid.proofs.LevelParts.{start-bottom, level-part, map-raster}

@@ -8,18 +8,18 @@ use native.Mathlib.Numerals.{add-one}
 use native.Mathlib.Omega.{arith}
 use lib.IntN.{ℤ, pos, natAbs}
 use lib.ListN.{length, getD, replicate, length-replicate}
-use Rattle.mathematics.specs.Splices.{splice, part}
-use Rattle.mathematics.specs.Tables.{tabulate}
+use Rattle.mathematics.specs.Inner.Splices.{splice, part}
+use Rattle.mathematics.specs.Definitions.Tables.{tabulate}
 use Rattle.mathematics.proofs.Tables.{length-tabulate}
 use Rattle.mathematics.proofs.Splices.{part-long, length-splice, getD-part}
 use Rattle.mathematics.proofs.Distance.{near-zero, abs-near}
 use Rattle.pyramid.specs.declared.Settings.{Settings}
-use Rattle.pyramid.specs.Lawful.{Lawful}
-use Rattle.pyramid.specs.Sizes.{Level, columnsAt, rowsAt, total}
-use Rattle.pyramid.specs.Buffers.{start, readLevels}
-use Rattle.pyramid.specs.Ranges.{EachNode}
-use Rattle.pyramid.specs.Rows.{Within, Small}
-use Rattle.pyramid.specs.Layers.{predicted}
+use Rattle.pyramid.specs.Inner.Lawful.{Lawful}
+use Rattle.pyramid.specs.Definitions.Sizes.{Level, columnsAt, rowsAt, total}
+use Rattle.pyramid.specs.Definitions.Buffers.{start, readLevels}
+use Rattle.pyramid.specs.Theorems.Ranges.{EachNode}
+use Rattle.pyramid.specs.Inner.Rows.{Within, Small}
+use Rattle.pyramid.specs.Inner.Layers.{predicted}
 use Rattle.pyramid.proofs.Sizes.{last-most}
 use Rattle.pyramid.proofs.Ranges.{near-constant}
 use Rattle.pyramid.proofs.Buffers.{row-inside}

@@ -5,17 +5,17 @@ use Prim.Native.Nat.{ℕ, suc, _+_, _-_, _*_, _≤_, _<_}
 use native.Mathlib.Omega.{arith}
 use lib.IntN.{ℤ, pos}
 use lib.ListN.{length}
-use Rattle.mathematics.specs.Tables.{tabulate}
-use Rattle.mathematics.specs.Splices.{splice, part}
+use Rattle.mathematics.specs.Definitions.Tables.{tabulate}
+use Rattle.mathematics.specs.Inner.Splices.{splice, part}
 use Rattle.mathematics.proofs.Tables.{tabulate-same}
 use Rattle.pyramid.specs.declared.Settings.{Settings}
-use Rattle.pyramid.specs.Lawful.{Lawful}
-use Rattle.pyramid.specs.Sizes.{Level, columnsAt, rowsAt, nodesAt, total}
-use Rattle.pyramid.specs.Steps.{expand}
-use Rattle.pyramid.specs.Pyramid.{expanded}
-use Rattle.pyramid.specs.Buffers.{start, readLevels}
-use Rattle.pyramid.specs.Rows.{asLevel, Source}
-use Rattle.pyramid.specs.Layers.{predicted, LevelSmall}
+use Rattle.pyramid.specs.Inner.Lawful.{Lawful}
+use Rattle.pyramid.specs.Definitions.Sizes.{Level, columnsAt, rowsAt, nodesAt, total}
+use Rattle.pyramid.specs.Definitions.Steps.{expand}
+use Rattle.pyramid.specs.Definitions.Pyramid.{expanded}
+use Rattle.pyramid.specs.Definitions.Buffers.{start, readLevels}
+use Rattle.pyramid.specs.Inner.Rows.{asLevel, Source}
+use Rattle.pyramid.specs.Inner.Layers.{predicted, LevelSmall}
 use Rattle.pyramid.proofs.Sizes.{last-most}
 use Rattle.pyramid.proofs.LevelSteps.{expandable, twice-wide, twice-high, expand-read}
 

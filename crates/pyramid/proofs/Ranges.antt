@@ -9,23 +9,23 @@ use native.Mathlib.Omega.{arith}
 use native.Mathlib.Nat.{le-trans, mul-le-mul-left, mul-le-mul-right}
 use lib.Dec.{T, leb, leb→le, lit<}
 use lib.IntN.{ℤ, pos, natAbs}
-use Rattle.mathematics.specs.Tests.{allBelow}
+use Rattle.mathematics.specs.Definitions.Tests.{allBelow}
 use Rattle.mathematics.proofs.Tests.{below-at}
 use Rattle.mathematics.proofs.Distance.{Near, near-more, near-trans, near-add, near-sub, near-zero, abs-near, pos-near}
 use Rattle.mathematics.proofs.IntegerLaws.{abs-*ℤ}
 use Rattle.pyramid.specs.declared.Settings.{Settings}
-use Rattle.pyramid.specs.Settings.{bin}
-use Rattle.pyramid.specs.Sizes.{Level, last}
-use Rattle.pyramid.specs.Pyramid.{reduced, expanded, average, difference, index}
-use Rattle.pyramid.specs.Weights.{weight}
-use Rattle.pyramid.specs.Edge.{reflect}
-use Rattle.pyramid.specs.Steps.{evenWeight, halved}
-use Rattle.pyramid.specs.Rebuilding.{valueOf, rebuild, rebuilt}
-use Rattle.pyramid.specs.Buffers.{Bytes, pixels, readLevels}
-use Rattle.pyramid.specs.Bound.{magnified, tolerance}
-use Rattle.pyramid.specs.Refusals.{limit, valuesOk}
-use Rattle.pyramid.specs.Ranges.{EachNode, ReduceSums, ExpandSums, CodingRanges, RebuildingRanges, Fits32}
-use Rattle.pyramid.specs.Lawful.{Kernel, Bin, Lawful}
+use Rattle.pyramid.specs.Definitions.Settings.{bin}
+use Rattle.pyramid.specs.Definitions.Sizes.{Level, last}
+use Rattle.pyramid.specs.Definitions.Pyramid.{reduced, expanded, average, difference, index}
+use Rattle.pyramid.specs.Definitions.Weights.{weight}
+use Rattle.pyramid.specs.Definitions.Edge.{reflect}
+use Rattle.pyramid.specs.Definitions.Steps.{evenWeight, halved}
+use Rattle.pyramid.specs.Definitions.Rebuilding.{valueOf, rebuild, rebuilt}
+use Rattle.pyramid.specs.Definitions.Buffers.{Bytes, pixels, readLevels}
+use Rattle.pyramid.specs.Definitions.Bound.{magnified, tolerance}
+use Rattle.pyramid.specs.Definitions.Refusals.{limit, valuesOk}
+use Rattle.pyramid.specs.Theorems.Ranges.{EachNode, ReduceSums, ExpandSums, CodingRanges, RebuildingRanges, Fits32}
+use Rattle.pyramid.specs.Inner.Lawful.{Kernel, Bin, Lawful}
 use Rattle.pyramid.proofs.Sizes.{last-suc, last-least}
 use Rattle.pyramid.proofs.Weights.{weight-size, even-size, reach-most, hundredths-most}
 use Rattle.pyramid.proofs.Windows.{window-sums}

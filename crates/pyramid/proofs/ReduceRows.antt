@@ -6,17 +6,17 @@ use native.Mathlib.Nat.{le-trans, le-refl, mul-le-mul-right}
 use native.Mathlib.Omega.{arith}
 use lib.IntN.{ℤ, pos, _*ℤ_}
 use lib.ListN.{getD}
-use Rattle.mathematics.specs.Sums.{sum}
-use Rattle.mathematics.specs.Tables.{tabulate}
-use Rattle.mathematics.specs.Splices.{splice}
+use Rattle.mathematics.specs.Definitions.Sums.{sum}
+use Rattle.mathematics.specs.Definitions.Tables.{tabulate}
+use Rattle.mathematics.specs.Inner.Splices.{splice}
 use Rattle.mathematics.proofs.Sums.{sum-same}
 use Rattle.mathematics.proofs.Filling.{getD-written}
-use Rattle.quantizer.specs.Rounding.{roundDiv}
-use Rattle.pyramid.specs.Sizes.{Level}
-use Rattle.pyramid.specs.Weights.{weight}
-use Rattle.pyramid.specs.Edge.{reflect}
-use Rattle.pyramid.specs.Steps.{reduce}
-use Rattle.pyramid.specs.Rows.{asLevel, columnSum, Within, Small}
+use Rattle.quantizer.specs.Definitions.Rounding.{roundDiv}
+use Rattle.pyramid.specs.Definitions.Sizes.{Level}
+use Rattle.pyramid.specs.Definitions.Weights.{weight}
+use Rattle.pyramid.specs.Definitions.Edge.{reflect}
+use Rattle.pyramid.specs.Definitions.Steps.{reduce}
+use Rattle.pyramid.specs.Inner.Rows.{asLevel, columnSum, Within, Small}
 use Rattle.pyramid.proofs.Weights.{size}
 use Rattle.pyramid.proofs.Windows.{window-columns, taps-small}
 use Rattle.pyramid.proofs.Edge.{reduce-inside}

@@ -8,12 +8,12 @@ use lib.Dec.{T, leb, eqb, leb→le, eqb→eq}
 use lib.IntN.{ℤ}
 use lib.ListN.{length}
 use Rattle.pyramid.specs.declared.Settings.{Settings}
-use Rattle.pyramid.specs.Settings.{sizeOk, kernelOk, binsOk}
-use Rattle.pyramid.specs.Sizes.{total}
-use Rattle.pyramid.specs.Refusals.{unless, first, shapeRefusal, settingsRefusal, buffersRefusal, valuesOk, levelsRefusal, codingRefusal, rebuildingRefusal}
-use Rattle.pyramid.specs.Calls.{leaves}
-use Rattle.pyramid.specs.Accepted.{Sized, Accepted}
-use Rattle.pyramid.specs.Lawful.{Shaped, Lawful}
+use Rattle.pyramid.specs.Definitions.Settings.{sizeOk, kernelOk, binsOk}
+use Rattle.pyramid.specs.Definitions.Sizes.{total}
+use Rattle.pyramid.specs.Definitions.Refusals.{unless, first, shapeRefusal, settingsRefusal, buffersRefusal, valuesOk, levelsRefusal, codingRefusal, rebuildingRefusal}
+use Rattle.pyramid.specs.Definitions.Calls.{leaves}
+use Rattle.pyramid.specs.Inner.Accepted.{Sized, Accepted}
+use Rattle.pyramid.specs.Inner.Lawful.{Shaped, Lawful}
 use Rattle.pyramid.proofs.Lawful.{shaped, lawful}
 
 -- ---- the first that is not 0

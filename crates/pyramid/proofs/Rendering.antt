@@ -6,11 +6,11 @@ use native.Mathlib.Nat.{mul-le-mul-right}
 use native.Mathlib.Numerals.{add-one}
 use native.Mathlib.Omega.{arith}
 use lib.ListN.{length}
-use Rattle.mathematics.specs.Splices.{splice, part}
-use Rattle.mathematics.specs.Tables.{tabulate}
+use Rattle.mathematics.specs.Inner.Splices.{splice, part}
+use Rattle.mathematics.specs.Definitions.Tables.{tabulate}
 use Rattle.mathematics.proofs.Tables.{length-tabulate}
 use Rattle.mathematics.proofs.Splices.{splice-nil, length-splice, splice-append, part-after, part-before}
-use Rattle.pyramid.specs.Buffers.{raster}
+use Rattle.pyramid.specs.Definitions.Buffers.{raster}
 use Rattle.pyramid.proofs.Buffers.{row-inside, length-raster}
 
 module _ {A : Type 0} where

@@ -5,11 +5,11 @@ use Prim.Native.Nat.{ℕ, zero, suc, _+_, _-_, _≤_}
 use native.Mathlib.Omega.{arith}
 use lib.IntN.{_-ℤ_, +ℤ-idr}
 use Rattle.pyramid.specs.declared.Settings.{Settings}
-use Rattle.pyramid.specs.Lawful.{Lawful}
-use Rattle.pyramid.specs.Sizes.{Level}
-use Rattle.pyramid.specs.Pyramid.{indexOf, average, difference, index}
-use Rattle.pyramid.specs.Ranges.{EachNode}
-use Rattle.pyramid.specs.Layers.{predicted, indexAt}
+use Rattle.pyramid.specs.Inner.Lawful.{Lawful}
+use Rattle.pyramid.specs.Definitions.Sizes.{Level}
+use Rattle.pyramid.specs.Definitions.Pyramid.{indexOf, average, difference, index}
+use Rattle.pyramid.specs.Theorems.Ranges.{EachNode}
+use Rattle.pyramid.specs.Inner.Layers.{predicted, indexAt}
 use Rattle.pyramid.proofs.LevelSteps.{reduced-same, expanded-same}
 
 module _ (s : Settings) (law : Lawful s) where

@@ -6,8 +6,8 @@ use native.Mathlib.Omega.{arith}
 use lib.Dec.{T, leb, leb→le}
 use Rattle.mathematics.proofs.Tests.{both}
 use Rattle.pyramid.specs.declared.Settings.{Settings}
-use Rattle.pyramid.specs.Settings.{sideOk, bin, slotOk, sizeOk}
-use Rattle.pyramid.specs.Depth.{deepest}
+use Rattle.pyramid.specs.Definitions.Settings.{sideOk, bin, slotOk, sizeOk}
+use Rattle.pyramid.specs.Definitions.Depth.{deepest}
 use Rattle.pyramid.proofs.Depth.{deepest-test}
 
 side-positive : (side : ℕ) → T (sideOk side) → 1 ≤ side

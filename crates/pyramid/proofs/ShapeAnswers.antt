@@ -5,12 +5,12 @@ use borrow.Author.Tests.{le-leb, eq-eqb}
 use Rattle.pyramid.specs.declared.Settings.{Settings}
 use Rattle.pyramid.specs.declared.LevelSize.{LevelSize}
 use Rattle.pyramid.specs.declared.Nodes.{Nodes}
-use Rattle.pyramid.specs.Settings.{sideOk, depthOk, divides, kernelOk, sizeOk}
-use Rattle.pyramid.specs.Sizes.{columnsAt, rowsAt, nodesAt, total}
-use Rattle.pyramid.specs.Lawful.{Shaped}
-use Rattle.pyramid.specs.Calls.{leaves}
-use Rattle.pyramid.specs.Refusals.{unless, first, shapeRefusal, settingsRefusal}
-use Rattle.pyramid.specs.Answers.{levelSizeAnswer, nodesAnswer, shapeAnswer}
+use Rattle.pyramid.specs.Definitions.Settings.{sideOk, depthOk, divides, kernelOk, sizeOk}
+use Rattle.pyramid.specs.Definitions.Sizes.{columnsAt, rowsAt, nodesAt, total}
+use Rattle.pyramid.specs.Inner.Lawful.{Shaped}
+use Rattle.pyramid.specs.Definitions.Calls.{leaves}
+use Rattle.pyramid.specs.Definitions.Refusals.{unless, first, shapeRefusal, settingsRefusal}
+use Rattle.pyramid.specs.Definitions.Answers.{levelSizeAnswer, nodesAnswer, shapeAnswer}
 use Rattle.pyramid.proofs.Refusals.{leaves-new}
 use Rattle.pyramid.proofs.Sizes.{nodes-most}
 

@@ -7,8 +7,8 @@ use native.Mathlib.Omega.{arith}
 use lib.Pow.{mod-mod-pow, field}
 use lib.Dec.{lit≤}
 use Rattle.pyramid.specs.declared.Settings.{Settings}
-use Rattle.pyramid.specs.Sizes.{last, columnsAt, rowsAt, nodesAt, nodesTo, total}
-use Rattle.pyramid.specs.Lawful.{Side, Shaped}
+use Rattle.pyramid.specs.Definitions.Sizes.{last, columnsAt, rowsAt, nodesAt, nodesTo, total}
+use Rattle.pyramid.specs.Inner.Lawful.{Side, Shaped}
 
 -- ---- one side
 

@@ -4,12 +4,12 @@ use Prim.Native.Nat.{ℕ, _<_}
 use native.Mathlib.Omega.{arith}
 use lib.IntN.{ℤ, pos}
 use lib.ListN.{length, getD, replicate}
-use Rattle.mathematics.specs.Tables.{tabulate}
-use Rattle.mathematics.specs.Splices.{splice}
+use Rattle.mathematics.specs.Definitions.Tables.{tabulate}
+use Rattle.mathematics.specs.Inner.Splices.{splice}
 use Rattle.mathematics.proofs.Each.{each-inside, each-tabulate, each-replicate, each-splice}
-use Rattle.pyramid.specs.Sizes.{Level}
-use Rattle.pyramid.specs.Buffers.{raster}
-use Rattle.pyramid.specs.Rows.{Within, Small}
+use Rattle.pyramid.specs.Definitions.Sizes.{Level}
+use Rattle.pyramid.specs.Definitions.Buffers.{raster}
+use Rattle.pyramid.specs.Inner.Rows.{Within, Small}
 use Rattle.pyramid.proofs.Buffers.{length-raster, raster-at, by-place}
 
 module _ {e : ℕ} where

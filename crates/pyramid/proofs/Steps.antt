@@ -8,12 +8,12 @@ use lib.IntN.{ℤ, pos, _*ℤ_}
 use Rattle.mathematics.proofs.Integers.{ints, all₁}
 use Rattle.mathematics.proofs.Distance.{Near, near-more, near-mul}
 use Rattle.quantizer.proofs.Rounding.{round-near, round-whole}
-use Rattle.pyramid.specs.Sizes.{Level}
-use Rattle.pyramid.specs.Weights.{weight}
-use Rattle.pyramid.specs.Edge.{reflect}
-use Rattle.pyramid.specs.Steps.{reduce, evenWeight, halved, expand}
-use Rattle.pyramid.specs.Bound.{hundredths, magnified}
-use Rattle.pyramid.specs.Lawful.{Kernel}
+use Rattle.pyramid.specs.Definitions.Sizes.{Level}
+use Rattle.pyramid.specs.Definitions.Weights.{weight}
+use Rattle.pyramid.specs.Definitions.Edge.{reflect}
+use Rattle.pyramid.specs.Definitions.Steps.{reduce, evenWeight, halved, expand}
+use Rattle.pyramid.specs.Definitions.Bound.{hundredths, magnified}
+use Rattle.pyramid.specs.Inner.Lawful.{Kernel}
 use Rattle.pyramid.proofs.Weights.{size, weight-sum, weight-size, even-sum, even-size, reach, reach-square}
 use Rattle.pyramid.proofs.Windows.{window-constant, near-window}
 use Rattle.pyramid.proofs.Edge.{reduce-inside, expand-inside}

@@ -6,7 +6,7 @@ use lib.Dec.{T, ltb}
 use lib.IntN.{ℤ, natAbs, _+ℤ_, _*ℤ_}
 use mir.Syntax.{w32}
 use mir.Val.{SFits}
-use Rattle.pyramid.specs.Rows.{Within}
+use Rattle.pyramid.specs.Inner.Rows.{Within}
 use Rattle.mathematics.proofs.Held.{held, held-is}
 use Rattle.mathematics.proofs.IntegerLaws.{fits-by, abs-sum, abs-product}
 

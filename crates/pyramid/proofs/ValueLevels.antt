@@ -5,20 +5,20 @@ use Prim.Native.Nat.{ℕ, zero, suc, _+_, _-_, _*_, _≤_, _<_}
 use native.Mathlib.Omega.{arith}
 use lib.IntN.{ℤ, pos, _+ℤ_, _*ℤ_, +ℤ-idr}
 use lib.ListN.{length, getD}
-use Rattle.mathematics.specs.Splices.{splice}
-use Rattle.mathematics.specs.Tables.{tabulate}
+use Rattle.mathematics.specs.Inner.Splices.{splice}
+use Rattle.mathematics.specs.Definitions.Tables.{tabulate}
 use Rattle.mathematics.proofs.Tables.{tabulate-same}
 use Rattle.mathematics.proofs.Splices.{getD-part}
 use Rattle.mathematics.proofs.Filling.{getD-written}
 use Rattle.pyramid.specs.declared.Settings.{Settings}
-use Rattle.pyramid.specs.Settings.{bin}
-use Rattle.pyramid.specs.Lawful.{Lawful}
-use Rattle.pyramid.specs.Sizes.{Level, columnsAt, rowsAt, nodesAt, total}
-use Rattle.pyramid.specs.Rebuilding.{valueOf, rebuild, rebuilt}
-use Rattle.pyramid.specs.Buffers.{levelRaster, allLevels, start, readLevels}
-use Rattle.pyramid.specs.Ranges.{EachNode, RebuildingRanges}
-use Rattle.pyramid.specs.Rows.{ValuesWithin}
-use Rattle.pyramid.specs.Layers.{predicted, valueAt, LevelSmall, ValueLevel}
+use Rattle.pyramid.specs.Definitions.Settings.{bin}
+use Rattle.pyramid.specs.Inner.Lawful.{Lawful}
+use Rattle.pyramid.specs.Definitions.Sizes.{Level, columnsAt, rowsAt, nodesAt, total}
+use Rattle.pyramid.specs.Definitions.Rebuilding.{valueOf, rebuild, rebuilt}
+use Rattle.pyramid.specs.Definitions.Buffers.{levelRaster, allLevels, start, readLevels}
+use Rattle.pyramid.specs.Theorems.Ranges.{EachNode, RebuildingRanges}
+use Rattle.pyramid.specs.Inner.Rows.{ValuesWithin}
+use Rattle.pyramid.specs.Inner.Layers.{predicted, valueAt, LevelSmall, ValueLevel}
 use Rattle.pyramid.proofs.Buffers.{inside, raster-same}
 use Rattle.pyramid.proofs.Rendering.{Rendering, rendering-next, rendering-before}
 use Rattle.pyramid.proofs.LevelParts.{start-below, start-next, level-inside}

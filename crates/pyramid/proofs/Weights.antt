@@ -9,15 +9,15 @@ use lib.Dec.{T, leb, eqb, leb→le, eqb→eq}
 use lib.IntN.{ℤ, pos, negsuc, natAbs}
 use lib.ListN.{getD}
 use mathlib.Core.List.{[]}
-use Rattle.mathematics.specs.Tests.{allBelow}
-use Rattle.mathematics.specs.Sums.{sum}
+use Rattle.mathematics.specs.Definitions.Tests.{allBelow}
+use Rattle.mathematics.specs.Definitions.Sums.{sum}
 use Rattle.mathematics.proofs.Tests.{below-at, between-at}
 use Rattle.mathematics.proofs.Sums.{total}
-use Rattle.pyramid.specs.Weights.{weights, fromCentre, weight}
-use Rattle.pyramid.specs.Steps.{evenWeight}
-use Rattle.pyramid.specs.Rows.{Within}
-use Rattle.pyramid.specs.Bound.{hundredths}
-use Rattle.pyramid.specs.Lawful.{Kernel}
+use Rattle.pyramid.specs.Definitions.Weights.{weights, fromCentre, weight}
+use Rattle.pyramid.specs.Definitions.Steps.{evenWeight}
+use Rattle.pyramid.specs.Inner.Rows.{Within}
+use Rattle.pyramid.specs.Definitions.Bound.{hundredths}
+use Rattle.pyramid.specs.Inner.Lawful.{Kernel}
 
 -- a test of the four kernels holds at each lawful one
 at-kernel : (test : ℕ → Bool) → T (allBelow 4 (λ n. test (3 + n))) → {k : ℕ} → Kernel k → T (test k)

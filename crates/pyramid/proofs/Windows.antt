@@ -5,15 +5,15 @@ use Prim.Native.Nat.{ℕ, _*_, _≤_, _<_}
 use native.Mathlib.Nat.{mul-assoc, mul-le-mul, mul-le-mul-right, le-trans, le-refl}
 use native.Mathlib.Omega.{arith}
 use lib.IntN.{ℤ, natAbs, _*ℤ_, *ℤ-comm}
-use Rattle.mathematics.specs.Sums.{sum}
+use Rattle.mathematics.specs.Definitions.Sums.{sum}
 use Rattle.mathematics.proofs.Integers.{ints, all₃}
 use Rattle.mathematics.proofs.IntegerLaws.{*ℤ-assoc, abs-*ℤ, abs-product}
 use Rattle.mathematics.proofs.Distance.{Near, near-mul}
 use Rattle.mathematics.proofs.Sums.{total, mul-total, total-mul, total-mono, near-sum, abs-of-sum, sum-scale, sum-swap}
-use Rattle.pyramid.specs.Sizes.{Level}
-use Rattle.pyramid.specs.Steps.{window, rowSum}
-use Rattle.pyramid.specs.Rows.{columnSum}
-use Rattle.pyramid.specs.Ranges.{WindowSums}
+use Rattle.pyramid.specs.Definitions.Sizes.{Level}
+use Rattle.pyramid.specs.Definitions.Steps.{window, rowSum}
+use Rattle.pyramid.specs.Inner.Rows.{columnSum}
+use Rattle.pyramid.specs.Theorems.Ranges.{WindowSums}
 use Rattle.pyramid.proofs.Weights.{size}
 
 factor : (a b v : ℤ) → a *ℤ b *ℤ v ≡ b *ℤ (a *ℤ v)

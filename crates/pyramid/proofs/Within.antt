@@ -6,12 +6,12 @@ use lib.IntN.{ℤ, -ℤ-+ℤ-cancel}
 use Rattle.mathematics.proofs.Distance.{Near, near-more, near-add}
 use Rattle.quantizer.proofs.Bins.{bin-near}
 use Rattle.pyramid.specs.declared.Settings.{Settings}
-use Rattle.pyramid.specs.Settings.{bin}
-use Rattle.pyramid.specs.Sizes.{Level, last}
-use Rattle.pyramid.specs.Pyramid.{expanded, indexOf, average, difference, index}
-use Rattle.pyramid.specs.Rebuilding.{valueOf, rebuild}
-use Rattle.pyramid.specs.Bound.{magnified, tolerance, bound}
-use Rattle.pyramid.specs.Lawful.{Bin, Lawful}
+use Rattle.pyramid.specs.Definitions.Settings.{bin}
+use Rattle.pyramid.specs.Definitions.Sizes.{Level, last}
+use Rattle.pyramid.specs.Definitions.Pyramid.{expanded, indexOf, average, difference, index}
+use Rattle.pyramid.specs.Definitions.Rebuilding.{valueOf, rebuild}
+use Rattle.pyramid.specs.Definitions.Bound.{magnified, tolerance, bound}
+use Rattle.pyramid.specs.Inner.Lawful.{Bin, Lawful}
 use Rattle.pyramid.proofs.Sizes.{last-suc, last-least}
 use Rattle.pyramid.proofs.Steps.{NearLevel, near-expand}
 

@@ -1,25 +1,25 @@
 -- The worked pieces, by computation; rounding and the bin rule answer by their laws. Assumes nothing.
 use mathlib.Core.Path.{_≡_, refl}
 use lib.IntN.{pos, negsuc}
-use Rattle.mathematics.specs.Sums.{sum}
-use Rattle.mathematics.specs.Tests.{allBelow, all}
-use Rattle.mathematics.specs.Tables.{tabulate}
-use Rattle.quantizer.specs.Rounding.{roundDiv}
-use Rattle.quantizer.specs.Bins.{binIndex}
+use Rattle.mathematics.specs.Definitions.Sums.{sum}
+use Rattle.mathematics.specs.Definitions.Tests.{allBelow, all}
+use Rattle.mathematics.specs.Definitions.Tables.{tabulate}
+use Rattle.quantizer.specs.Definitions.Rounding.{roundDiv}
+use Rattle.quantizer.specs.Definitions.Bins.{binIndex}
 use Rattle.quantizer.proofs.Rounding.{round-at}
 use Rattle.quantizer.proofs.Bins.{bin-at}
-use Rattle.pyramid.specs.Settings.{sideOk, depthOk, divides, kernelOk, slotOk, sizeOk, binsOk}
-use Rattle.pyramid.specs.Sizes.{last, nodesTo, total}
-use Rattle.pyramid.specs.Weights.{weights, weight}
-use Rattle.pyramid.specs.Edge.{reflect}
-use Rattle.pyramid.specs.Steps.{window, reduce, evenWeight, expand}
-use Rattle.pyramid.specs.Pyramid.{indexOf, average, difference, index}
-use Rattle.pyramid.specs.Rebuilding.{valueOf, rebuild, clamp}
-use Rattle.pyramid.specs.Bound.{hundredths, magnified, tolerance, bound}
-use Rattle.pyramid.specs.Buffers.{raster, pixels, stack, start, readLevels}
-use Rattle.pyramid.specs.Refusals.{unless, first, shapeRefusal, settingsRefusal, buffersRefusal, valuesOk, codingRefusal, rebuildingRefusal}
-use Rattle.pyramid.specs.Calls.{leaves, coding, rebuilding}
-use Rattle.pyramid.specs.WorkedPieces.{WorkedPieces}
+use Rattle.pyramid.specs.Definitions.Settings.{sideOk, depthOk, divides, kernelOk, slotOk, sizeOk, binsOk}
+use Rattle.pyramid.specs.Definitions.Sizes.{last, nodesTo, total}
+use Rattle.pyramid.specs.Definitions.Weights.{weights, weight}
+use Rattle.pyramid.specs.Definitions.Edge.{reflect}
+use Rattle.pyramid.specs.Definitions.Steps.{window, reduce, evenWeight, expand}
+use Rattle.pyramid.specs.Definitions.Pyramid.{indexOf, average, difference, index}
+use Rattle.pyramid.specs.Definitions.Rebuilding.{valueOf, rebuild, clamp}
+use Rattle.pyramid.specs.Definitions.Bound.{hundredths, magnified, tolerance, bound}
+use Rattle.pyramid.specs.Definitions.Buffers.{raster, pixels, stack, start, readLevels}
+use Rattle.pyramid.specs.Definitions.Refusals.{unless, first, shapeRefusal, settingsRefusal, buffersRefusal, valuesOk, codingRefusal, rebuildingRefusal}
+use Rattle.pyramid.specs.Definitions.Calls.{leaves, coding, rebuilding}
+use Rattle.pyramid.specs.Theorems.WorkedPieces.{WorkedPieces}
 
 -- ---- piece A: averages, differences, indices, rebuilt values
 

@@ -4,16 +4,16 @@ ghost use mathlib.Core.Path.{_≡_};
 ghost use Prim.Native.Nat.{_+_, _-_, _*_, _/_, _%_, _≤_, _<_};
 ghost use lib.IntN.{pos, _+ℤ_, _*ℤ_};
 ghost use lib.ListN.{length, getD};
-ghost use Rattle.mathematics.specs.Sums.{sum};
-ghost use Rattle.mathematics.specs.Tables.{tabulate};
-ghost use Rattle.mathematics.specs.Splices.{splice, part};
-ghost use Rattle.quantizer.specs.Rounding.{roundDiv};
-ghost use Rattle.pyramid.specs.Lawful.{Kernel};
-ghost use Rattle.pyramid.specs.Weights.{weight};
-ghost use Rattle.pyramid.specs.Edge.{reflect};
-ghost use Rattle.pyramid.specs.Rows.{asLevel, columnSum, Within, Small, Source, halvedNodes, Reducible};
-ghost use Rattle.pyramid.specs.Steps.{reduce};
-ghost use Rattle.pyramid.specs.Buffers.{raster};
+ghost use Rattle.mathematics.specs.Definitions.Sums.{sum};
+ghost use Rattle.mathematics.specs.Definitions.Tables.{tabulate};
+ghost use Rattle.mathematics.specs.Inner.Splices.{splice, part};
+ghost use Rattle.quantizer.specs.Definitions.Rounding.{roundDiv};
+ghost use Rattle.pyramid.specs.Inner.Lawful.{Kernel};
+ghost use Rattle.pyramid.specs.Definitions.Weights.{weight};
+ghost use Rattle.pyramid.specs.Definitions.Edge.{reflect};
+ghost use Rattle.pyramid.specs.Inner.Rows.{asLevel, columnSum, Within, Small, Source, halvedNodes, Reducible};
+ghost use Rattle.pyramid.specs.Definitions.Steps.{reduce};
+ghost use Rattle.pyramid.specs.Definitions.Buffers.{raster};
 
 // Where the row that place p stands for begins.
 fn row_start(columns: usize, rows: usize, p: usize) -> usize

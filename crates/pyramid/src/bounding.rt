@@ -2,9 +2,9 @@
 use crate::Settings;
 ghost use mathlib.Core.Path.{_≡_};
 ghost use Prim.Native.Nat.{_≤_, _<_};
-ghost use Rattle.pyramid.specs.Bound.{magnified};
-ghost use Rattle.pyramid.specs.Answers.{boundSlots};
-ghost use Rattle.pyramid.specs.Lawful.{Lawful};
+ghost use Rattle.pyramid.specs.Definitions.Bound.{magnified};
+ghost use Rattle.pyramid.specs.Definitions.Answers.{boundSlots};
+ghost use Rattle.pyramid.specs.Inner.Lawful.{Lawful};
 
 // A distance times the kernel's multiplier, rounded up: 1.96 for kernel 6, 1 for the others.
 fn magnify(kernel: u16, distance: u16) -> u16

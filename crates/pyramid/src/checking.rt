@@ -3,9 +3,9 @@ use crate::Settings;
 ghost use mathlib.Core.Path.{_≡_};
 ghost use mathlib.Core.Bool.{_&&_};
 ghost use Prim.Native.Nat.{_≤_, _<_, min};
-ghost use Rattle.pyramid.specs.Settings.{sideOk, kernelOk, slotOk, sizeOk, binsOk};
-ghost use Rattle.pyramid.specs.Depth.{deepest};
-ghost use Rattle.pyramid.specs.Refusals.{shapeRefusal, settingsRefusal};
+ghost use Rattle.pyramid.specs.Definitions.Settings.{sideOk, kernelOk, slotOk, sizeOk, binsOk};
+ghost use Rattle.pyramid.specs.Definitions.Depth.{deepest};
+ghost use Rattle.pyramid.specs.Definitions.Refusals.{shapeRefusal, settingsRefusal};
 
 fn lesser(a: u32, b: u32) -> u32
     ensures { λ r. ⌜ r ≡ min a b ⌝ }

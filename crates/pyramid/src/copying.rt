@@ -7,13 +7,13 @@ ghost use mathlib.Core.List.{map};
 ghost use Prim.Native.Nat.{_+_, _≤_};
 ghost use lib.IntN.{pos, _+ℤ_, _-ℤ_, _*ℤ_};
 ghost use lib.ListN.{length, getD};
-ghost use Rattle.mathematics.specs.Tests.{all};
-ghost use Rattle.mathematics.specs.Tables.{tabulate};
-ghost use Rattle.mathematics.specs.Splices.{splice};
-ghost use Rattle.quantizer.specs.Bins.{binIndex};
-ghost use Rattle.pyramid.specs.Rebuilding.{clamp};
-ghost use Rattle.pyramid.specs.Rows.{Small, IndicesWithin, ValuesWithin};
-ghost use Rattle.pyramid.specs.Refusals.{indexOk};
+ghost use Rattle.mathematics.specs.Definitions.Tests.{all};
+ghost use Rattle.mathematics.specs.Definitions.Tables.{tabulate};
+ghost use Rattle.mathematics.specs.Inner.Splices.{splice};
+ghost use Rattle.quantizer.specs.Definitions.Bins.{binIndex};
+ghost use Rattle.pyramid.specs.Definitions.Rebuilding.{clamp};
+ghost use Rattle.pyramid.specs.Inner.Rows.{Small, IndicesWithin, ValuesWithin};
+ghost use Rattle.pyramid.specs.Definitions.Refusals.{indexOk};
 
 // The pixels as numbers, from `at` on.
 pub fn load(picture: &[u8], work: &mut [i32], at: usize)

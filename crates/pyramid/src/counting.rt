@@ -2,9 +2,9 @@
 use crate::Settings;
 ghost use mathlib.Core.Path.{_≡_};
 ghost use Prim.Native.Nat.{_*_, _≤_};
-ghost use Rattle.pyramid.specs.Lawful.{Shaped};
-ghost use Rattle.pyramid.specs.Sizes.{last, columnsAt, rowsAt, nodesTo, total};
-ghost use Rattle.pyramid.specs.Buffers.{start};
+ghost use Rattle.pyramid.specs.Inner.Lawful.{Shaped};
+ghost use Rattle.pyramid.specs.Definitions.Sizes.{last, columnsAt, rowsAt, nodesTo, total};
+ghost use Rattle.pyramid.specs.Definitions.Buffers.{start};
 
 // The last column (row) of a level of a picture with so many columns (rows).
 fn last_at(side: u16, level: u16) -> usize

@@ -4,14 +4,14 @@ ghost use mathlib.Core.Path.{_≡_};
 ghost use Prim.Native.Nat.{_+_, _-_, _*_, _/_, _≤_, _<_};
 ghost use lib.IntN.{pos, _+ℤ_, _*ℤ_};
 ghost use lib.ListN.{length, getD};
-ghost use Rattle.mathematics.specs.Sums.{sum};
-ghost use Rattle.mathematics.specs.Tables.{tabulate};
-ghost use Rattle.mathematics.specs.Splices.{splice};
-ghost use Rattle.quantizer.specs.Rounding.{roundDiv};
-ghost use Rattle.pyramid.specs.Lawful.{Kernel};
-ghost use Rattle.pyramid.specs.Edge.{reflect};
-ghost use Rattle.pyramid.specs.Steps.{evenWeight, halved, expand};
-ghost use Rattle.pyramid.specs.Rows.{asLevel, columnSum, Within, Small, Source};
+ghost use Rattle.mathematics.specs.Definitions.Sums.{sum};
+ghost use Rattle.mathematics.specs.Definitions.Tables.{tabulate};
+ghost use Rattle.mathematics.specs.Inner.Splices.{splice};
+ghost use Rattle.quantizer.specs.Definitions.Rounding.{roundDiv};
+ghost use Rattle.pyramid.specs.Inner.Lawful.{Kernel};
+ghost use Rattle.pyramid.specs.Definitions.Edge.{reflect};
+ghost use Rattle.pyramid.specs.Definitions.Steps.{evenWeight, halved, expand};
+ghost use Rattle.pyramid.specs.Inner.Rows.{asLevel, columnSum, Within, Small, Source};
 
 // Three rows, which start at a, b and c, weighed column by column: the outer two with one weight, the middle one with another.
 fn weigh_rows(

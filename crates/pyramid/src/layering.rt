@@ -8,18 +8,18 @@ ghost use mathlib.Core.Path.{_≡_};
 ghost use Prim.Native.Nat.{suc, _+_, _-_, _≤_, _<_};
 ghost use lib.IntN.{pos, natAbs};
 ghost use lib.ListN.{length};
-ghost use Rattle.mathematics.specs.Tables.{tabulate};
-ghost use Rattle.mathematics.specs.Splices.{splice};
-ghost use Rattle.pyramid.specs.Lawful.{Lawful};
-ghost use Rattle.pyramid.specs.Sizes.{columnsAt, rowsAt, total};
-ghost use Rattle.pyramid.specs.Pyramid.{reduced, average};
-ghost use Rattle.pyramid.specs.Rebuilding.{valueOf, rebuilt};
-ghost use Rattle.pyramid.specs.Buffers.{levelRaster, allLevels, start, readLevels};
+ghost use Rattle.mathematics.specs.Definitions.Tables.{tabulate};
+ghost use Rattle.mathematics.specs.Inner.Splices.{splice};
+ghost use Rattle.pyramid.specs.Inner.Lawful.{Lawful};
+ghost use Rattle.pyramid.specs.Definitions.Sizes.{columnsAt, rowsAt, total};
+ghost use Rattle.pyramid.specs.Definitions.Pyramid.{reduced, average};
+ghost use Rattle.pyramid.specs.Definitions.Rebuilding.{valueOf, rebuilt};
+ghost use Rattle.pyramid.specs.Definitions.Buffers.{levelRaster, allLevels, start, readLevels};
 ghost use lib.Dec.{leb};
-ghost use Rattle.mathematics.specs.Tests.{all};
-ghost use Rattle.pyramid.specs.Refusals.{limit, valuesOk};
-ghost use Rattle.pyramid.specs.Ranges.{CodingRanges, RebuildingRanges};
-ghost use Rattle.pyramid.specs.Layers.{predicted, indexAt, valueAt, LevelSmall, IndexLevel, Holds, ValueLevel};
+ghost use Rattle.mathematics.specs.Definitions.Tests.{all};
+ghost use Rattle.pyramid.specs.Definitions.Refusals.{limit, valuesOk};
+ghost use Rattle.pyramid.specs.Theorems.Ranges.{CodingRanges, RebuildingRanges};
+ghost use Rattle.pyramid.specs.Inner.Layers.{predicted, indexAt, valueAt, LevelSmall, IndexLevel, Holds, ValueLevel};
 
 // The averages of the level above l, from those of level l.
 fn average_level(s: Settings, l: u16, work: &mut [i32])

@@ -1,16 +1,16 @@
 // The picture pyramid of document 01: settings, coding, rebuilding, the bound and the deepest depth.
 ghost use mathlib.Core.Path.{_≡_};
-ghost use Rattle.pyramid.specs.Answers.{nodesAnswer, shapeAnswer, levelSizeAnswer, boundsAnswer, deepestAnswer};
+ghost use Rattle.pyramid.specs.Definitions.Answers.{nodesAnswer, shapeAnswer, levelSizeAnswer, boundsAnswer, deepestAnswer};
 ghost use mathlib.Core.List.{[], _∷_};
 ghost use lib.Dec.{T};
-ghost use Rattle.pyramid.specs.Pyramid.{average, index};
-ghost use Rattle.pyramid.specs.Rebuilding.{rebuilt, clamp};
-ghost use Rattle.pyramid.specs.Buffers.{raster, pixels, allLevels, readLevels};
-ghost use Rattle.pyramid.specs.Refusals.{first, settingsRefusal, buffersRefusal, valuesOk, levelsRefusal};
-ghost use Rattle.pyramid.specs.Calls.{leaves, inWork, coding, rebuilding};
-ghost use Rattle.pyramid.specs.Sizes.{total};
-ghost use Rattle.pyramid.specs.Lawful.{Shaped};
-ghost use Rattle.pyramid.specs.Accepted.{Accepted};
+ghost use Rattle.pyramid.specs.Definitions.Pyramid.{average, index};
+ghost use Rattle.pyramid.specs.Definitions.Rebuilding.{rebuilt, clamp};
+ghost use Rattle.pyramid.specs.Definitions.Buffers.{raster, pixels, allLevels, readLevels};
+ghost use Rattle.pyramid.specs.Definitions.Refusals.{first, settingsRefusal, buffersRefusal, valuesOk, levelsRefusal};
+ghost use Rattle.pyramid.specs.Definitions.Calls.{leaves, inWork, coding, rebuilding};
+ghost use Rattle.pyramid.specs.Definitions.Sizes.{total};
+ghost use Rattle.pyramid.specs.Inner.Lawful.{Shaped};
+ghost use Rattle.pyramid.specs.Inner.Accepted.{Accepted};
 
 mod averaging;
 mod bounding;

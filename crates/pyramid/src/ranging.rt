@@ -1,8 +1,8 @@
 // The lowest and the highest of some indices and 0, and the test of number 11 on these two.
 use crate::IndexRange;
 ghost use mathlib.Core.Path.{_≡_};
-ghost use Rattle.pyramid.specs.Refusals.{indexOk};
-ghost use Rattle.pyramid.specs.IndexRanges.{lesser, greater, widened, rangeOk};
+ghost use Rattle.pyramid.specs.Definitions.Refusals.{indexOk};
+ghost use Rattle.pyramid.specs.Definitions.IndexRanges.{lesser, greater, widened, rangeOk};
 
 fn lesser(a: i16, b: i16) -> i16
     ensures { λ r. ⌜ r ≡ lesser a b ⌝ }

@@ -2,10 +2,10 @@
 ghost use mathlib.Core.Path.{_≡_};
 ghost use Prim.Native.Nat.{_+_, _-_, _*_, _≤_, _<_};
 ghost use lib.IntN.{_+ℤ_, _*ℤ_};
-ghost use Rattle.pyramid.specs.Lawful.{Kernel};
-ghost use Rattle.pyramid.specs.Weights.{weight};
-ghost use Rattle.pyramid.specs.Edge.{reflect};
-ghost use Rattle.pyramid.specs.Rows.{Within};
+ghost use Rattle.pyramid.specs.Inner.Lawful.{Kernel};
+ghost use Rattle.pyramid.specs.Definitions.Weights.{weight};
+ghost use Rattle.pyramid.specs.Definitions.Edge.{reflect};
+ghost use Rattle.pyramid.specs.Inner.Rows.{Within};
 
 // In twentieths: a row for each kernel from 3 to 6, a column for each distance from the centre.
 const WEIGHTS: [[i32; 3]; 4] = [[6, 5, 2], [8, 5, 1], [10, 5, 0], [12, 5, -1]];

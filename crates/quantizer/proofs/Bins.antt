@@ -11,9 +11,9 @@ use Rattle.mathematics.proofs.Integers.{ints, all₂, all₃}
 use Rattle.mathematics.proofs.IntegerLaws.{≤ℤ-antisym}
 use Rattle.mathematics.proofs.Distance.{Near}
 use Rattle.mathematics.proofs.Tests.{both}
-use Rattle.quantizer.specs.Bins.{binIndex, InBin}
-use Rattle.quantizer.specs.Division.{Floor}
-use Rattle.quantizer.specs.Bins.Law.{bin-rule}
+use Rattle.quantizer.specs.Definitions.Bins.{binIndex, InBin}
+use Rattle.quantizer.specs.Inner.Division.{Floor}
+use Rattle.quantizer.specs.Definitions.Bins.Law.{bin-rule}
 
 -- ---- one answer
 

@@ -12,9 +12,9 @@ use Rattle.mathematics.proofs.Integers.{ints, all₁, all₂, all₃, all₄}
 use Rattle.mathematics.proofs.IntegerLaws.{≤ℤ-antisym}
 use Rattle.mathematics.proofs.Distance.{Near}
 use Rattle.mathematics.proofs.Tests.{both}
-use Rattle.quantizer.specs.Rounding.{roundDiv, Rounded}
-use Rattle.quantizer.specs.Division.{Floor}
-use Rattle.quantizer.specs.Rounding.Law.{Between, round-between, rounded-of, round-rule}
+use Rattle.quantizer.specs.Definitions.Rounding.{roundDiv, Rounded}
+use Rattle.quantizer.specs.Inner.Division.{Floor}
+use Rattle.quantizer.specs.Definitions.Rounding.Law.{Between, round-between, rounded-of, round-rule}
 
 -- ---- one answer
 

@@ -1,4 +1,2 @@
-pub mod Rounding
-pub mod Bins
-pub mod Division
-pub mod Reciprocals
+pub mod Definitions
+pub mod Inner

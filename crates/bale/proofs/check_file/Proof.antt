@@ -1,7 +1,7 @@
 -- `bale::check_file` meets its contract: a refusal, or what the file says of its bale. Assumes nothing.
 use mathlib.Core.Path.{sym, ap, _∙_}
 use borrow.Author.Needs.{needs}
-use Rattle.bale.specs.Calls.{baleOf, checking}
+use Rattle.bale.specs.Definitions.Calls.{baleOf, checking}
 use Rattle.bale.proofs.Answers.{refused-bale}
 use Rattle.bale.proofs.check_file.Statement.{statement}
 use Rattle.bale.proofs.check_file.Tie as tie

@@ -1,7 +1,7 @@
 -- `lepsarvu::lepsarvu_file_size` meets its contract, which is that of `bale::file_size`. Assumes nothing.
 use mathlib.Core.Path.{ap, _∙_}
 use Rattle.bale.specs.declared.FileSize.{FileSize}
-use Rattle.bale.specs.Calls.{sizeAnswer}
+use Rattle.bale.specs.Definitions.Calls.{sizeAnswer}
 use borrow.Author.Needs.{needs}
 use Rattle.lepsarvu.proofs.lepsarvu_file_size.Statement.{statement}
 use Rattle.lepsarvu.proofs.lepsarvu_file_size.Tie as tie

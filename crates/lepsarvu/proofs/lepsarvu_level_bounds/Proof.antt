@@ -2,7 +2,7 @@
 use mathlib.Core.Path.{ap, _∙_}
 use borrow.Author.Needs.{needs}
 use Rattle.pyramid.specs.declared.Bounds.{Bounds}
-use Rattle.pyramid.specs.Answers.{boundsAnswer}
+use Rattle.pyramid.specs.Definitions.Answers.{boundsAnswer}
 use Rattle.lepsarvu.proofs.Given.{given, kept}
 use Rattle.lepsarvu.proofs.lepsarvu_level_bounds.Statement.{statement}
 use Rattle.lepsarvu.proofs.lepsarvu_level_bounds.Tie as tie

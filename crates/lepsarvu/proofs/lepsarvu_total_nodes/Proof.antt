@@ -2,7 +2,7 @@
 use mathlib.Core.Path.{ap, _∙_}
 use borrow.Author.Needs.{needs}
 use Rattle.pyramid.specs.declared.Nodes.{Nodes}
-use Rattle.pyramid.specs.Answers.{nodesAnswer}
+use Rattle.pyramid.specs.Definitions.Answers.{nodesAnswer}
 use Rattle.lepsarvu.proofs.Given.{given, kept}
 use Rattle.lepsarvu.proofs.lepsarvu_total_nodes.Statement.{statement}
 use Rattle.lepsarvu.proofs.lepsarvu_total_nodes.Tie as tie

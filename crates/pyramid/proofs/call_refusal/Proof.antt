@@ -6,8 +6,8 @@ use native.Mathlib.Omega.{arith}
 use lib.Dec.{leb, eqb}
 use borrow.Author.Tests.{eq-eqb, le-leb, ne-eqb, lt-leb}
 use borrow.Author.Needs.{needs}
-use Rattle.pyramid.specs.Refusals.{unless, first, settingsRefusal, buffersRefusal}
-use Rattle.pyramid.specs.Lawful.{Lawful}
+use Rattle.pyramid.specs.Definitions.Refusals.{unless, first, settingsRefusal, buffersRefusal}
+use Rattle.pyramid.specs.Inner.Lawful.{Lawful}
 use Rattle.pyramid.proofs.Refusals.{first-stop, accepted-settings}
 use Rattle.pyramid.proofs.call_refusal.Statement.{statement}
 use Rattle.pyramid.proofs.call_refusal.Tie as tie

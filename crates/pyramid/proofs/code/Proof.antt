@@ -4,7 +4,7 @@ use mathlib.Core.Path.{_≡_, _∙_}
 use native.Mathlib.Omega.{arith}
 use borrow.Author.Needs.{needs}
 use denote.Ref.{now}
-use Rattle.pyramid.specs.Buffers.{Bytes}
+use Rattle.pyramid.specs.Definitions.Buffers.{Bytes}
 use Rattle.pyramid.proofs.Pictures.{picture-nodes}
 use Rattle.pyramid.proofs.LoadedPictures.{loaded, averaged, loaded-ranges, averages-placed, averages-hold, indices-placed}
 use Rattle.pyramid.proofs.code.Statement.{statement}

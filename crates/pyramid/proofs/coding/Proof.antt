@@ -2,8 +2,8 @@
 use mathlib.Core.Path.{_≡_, refl, sym, _∙_}
 use borrow.Author.Needs.{needs}
 use denote.Ref.{now}
-use Rattle.pyramid.specs.Refusals.{codingRefusal}
-use Rattle.pyramid.specs.Calls.{leaves, coding}
+use Rattle.pyramid.specs.Definitions.Refusals.{codingRefusal}
+use Rattle.pyramid.specs.Definitions.Calls.{leaves, coding}
 use Rattle.pyramid.proofs.Refusals.{accepted-coding, leaves-kept}
 use Rattle.pyramid.proofs.coding.Statement.{statement}
 use Rattle.pyramid.proofs.coding.Tie as tie

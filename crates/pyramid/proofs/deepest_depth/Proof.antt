@@ -1,9 +1,9 @@
 -- `pyramid::deepest_depth` meets its contract. Assumes nothing.
 use mathlib.Core.Path.{sym, _∙_}
 use borrow.Author.Needs.{needs}
-use Rattle.pyramid.specs.Refusals.{unless}
-use Rattle.pyramid.specs.Calls.{leaves}
-use Rattle.pyramid.specs.Answers.{deepestAnswer}
+use Rattle.pyramid.specs.Definitions.Refusals.{unless}
+use Rattle.pyramid.specs.Definitions.Calls.{leaves}
+use Rattle.pyramid.specs.Definitions.Answers.{deepestAnswer}
 use Rattle.pyramid.proofs.SettingsTests.{sides-positive}
 use Rattle.pyramid.proofs.deepest_depth.Statement.{statement}
 use Rattle.pyramid.proofs.deepest_depth.Tie as tie

@@ -1,8 +1,8 @@
 -- `pyramid::level_bounds` meets its contract: accepted settings are lawful, and a refusal leaves 0 in every slot. Assumes nothing.
 use mathlib.Core.Path.{sym, _∙_}
 use borrow.Author.Needs.{needs}
-use Rattle.pyramid.specs.Calls.{leaves}
-use Rattle.pyramid.specs.Answers.{boundsAnswer}
+use Rattle.pyramid.specs.Definitions.Calls.{leaves}
+use Rattle.pyramid.specs.Definitions.Answers.{boundsAnswer}
 use Rattle.pyramid.proofs.Refusals.{accepted-settings, leaves-kept}
 use Rattle.pyramid.proofs.level_bounds.Statement.{statement}
 use Rattle.pyramid.proofs.level_bounds.Tie as tie

@@ -2,9 +2,9 @@
 use mathlib.Core.Path.{_≡_, sym, _∙_}
 use borrow.Author.Needs.{needs}
 use borrow.Author.Tests.{le-leb, lt-leb}
-use Rattle.pyramid.specs.Refusals.{shapeRefusal}
-use Rattle.pyramid.specs.Calls.{leaves}
-use Rattle.pyramid.specs.Answers.{levelSizeAnswer}
+use Rattle.pyramid.specs.Definitions.Refusals.{shapeRefusal}
+use Rattle.pyramid.specs.Definitions.Calls.{leaves}
+use Rattle.pyramid.specs.Definitions.Answers.{levelSizeAnswer}
 use Rattle.pyramid.proofs.Refusals.{accepted-shape, leaves-kept}
 use Rattle.pyramid.proofs.level_size.Statement.{statement}
 use Rattle.pyramid.proofs.level_size.Tie as tie

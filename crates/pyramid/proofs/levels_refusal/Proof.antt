@@ -4,9 +4,9 @@ use borrow.Author.Needs.{needs}
 use borrow.Author.Tests.{eq-eqb, ne-eqb}
 use denote.Ref.{now}
 use lib.ListN.{length}
-use Rattle.pyramid.specs.Refusals.{unless, first, settingsRefusal, levelsRefusal}
-use Rattle.pyramid.specs.Sizes.{total}
-use Rattle.pyramid.specs.Lawful.{Lawful}
+use Rattle.pyramid.specs.Definitions.Refusals.{unless, first, settingsRefusal, levelsRefusal}
+use Rattle.pyramid.specs.Definitions.Sizes.{total}
+use Rattle.pyramid.specs.Inner.Lawful.{Lawful}
 use Rattle.pyramid.proofs.Refusals.{first-stop, accepted-settings}
 use Rattle.pyramid.proofs.levels_refusal.Statement.{statement}
 use Rattle.pyramid.proofs.levels_refusal.Tie as tie

@@ -1,6 +1,6 @@
 -- `pyramid::nodes_of` meets its contract: T is counted where there is no refusal. Assumes nothing.
 use borrow.Author.Needs.{needs}
-use Rattle.pyramid.specs.Calls.{leaves}
+use Rattle.pyramid.specs.Definitions.Calls.{leaves}
 use Rattle.pyramid.proofs.Refusals.{leaves-kept}
 use Rattle.pyramid.proofs.nodes_of.Statement.{statement}
 use Rattle.pyramid.proofs.nodes_of.Tie as tie

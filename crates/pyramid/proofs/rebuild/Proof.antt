@@ -5,10 +5,10 @@ use native.Mathlib.Omega.{arith}
 use borrow.Author.Needs.{needs}
 use denote.Ref.{now}
 use lib.ListN.{length}
-use Rattle.pyramid.specs.Sizes.{Level, total}
-use Rattle.pyramid.specs.Rebuilding.{rebuilt}
-use Rattle.pyramid.specs.Buffers.{readLevels}
-use Rattle.pyramid.specs.Calls.{inWork}
+use Rattle.pyramid.specs.Definitions.Sizes.{Level, total}
+use Rattle.pyramid.specs.Definitions.Rebuilding.{rebuilt}
+use Rattle.pyramid.specs.Definitions.Buffers.{readLevels}
+use Rattle.pyramid.specs.Definitions.Calls.{inWork}
 use Rattle.pyramid.proofs.Ranges.{rebuilding-ranges}
 use Rattle.pyramid.proofs.LevelPlaces.{front-all}
 use Rattle.pyramid.proofs.Pictures.{picture-nodes, picture-length, picture-clamped}

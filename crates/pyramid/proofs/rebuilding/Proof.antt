@@ -7,9 +7,9 @@ use lib.Dec.{T}
 use borrow.Author.Needs.{needs}
 use borrow.Author.Tests.{not-true, not-false}
 use denote.Ref.{now}
-use Rattle.pyramid.specs.Refusals.{unless, first, valuesOk, codingRefusal, rebuildingRefusal}
-use Rattle.pyramid.specs.Calls.{leaves, rebuilding}
-use Rattle.pyramid.specs.Accepted.{Accepted}
+use Rattle.pyramid.specs.Definitions.Refusals.{unless, first, valuesOk, codingRefusal, rebuildingRefusal}
+use Rattle.pyramid.specs.Definitions.Calls.{leaves, rebuilding}
+use Rattle.pyramid.specs.Inner.Accepted.{Accepted}
 use Rattle.pyramid.proofs.Refusals.{accepted-coding, rebuilding-refused, rebuilding-values, leaves-kept}
 use Rattle.pyramid.proofs.rebuilding.Statement.{statement}
 use Rattle.pyramid.proofs.rebuilding.Tie as tie

@@ -1,7 +1,7 @@
 -- `pyramid::shape_nodes` meets its contract: an accepted shape is lawful. Assumes nothing.
 use mathlib.Core.Path.{sym, _∙_}
 use borrow.Author.Needs.{needs}
-use Rattle.pyramid.specs.Answers.{shapeAnswer}
+use Rattle.pyramid.specs.Definitions.Answers.{shapeAnswer}
 use Rattle.pyramid.proofs.Refusals.{accepted-shape}
 use Rattle.pyramid.proofs.shape_nodes.Statement.{statement}
 use Rattle.pyramid.proofs.shape_nodes.Tie as tie

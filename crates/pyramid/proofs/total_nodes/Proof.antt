@@ -1,7 +1,7 @@
 -- `pyramid::total_nodes` meets its contract: accepted settings are lawful. Assumes nothing.
 use mathlib.Core.Path.{sym, _∙_}
 use borrow.Author.Needs.{needs}
-use Rattle.pyramid.specs.Answers.{nodesAnswer}
+use Rattle.pyramid.specs.Definitions.Answers.{nodesAnswer}
 use Rattle.pyramid.proofs.Refusals.{accepted-settings}
 use Rattle.pyramid.proofs.total_nodes.Statement.{statement}
 use Rattle.pyramid.proofs.total_nodes.Tie as tie

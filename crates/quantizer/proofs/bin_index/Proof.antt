@@ -5,7 +5,7 @@ use borrow.Author.Needs.{needs, sfits-of}
 use lib.IntN.{pos, negsuc}
 use Rattle.mathematics.proofs.IntegerLaws.{abs-between, leZ-true}
 use Rattle.mathematics.proofs.Held.{held, held-is}
-use Rattle.quantizer.specs.Bins.Law.{bin-zero}
+use Rattle.quantizer.specs.Definitions.Bins.Law.{bin-zero}
 use Rattle.quantizer.proofs.Bins.{floor-bin}
 use Rattle.quantizer.proofs.bin_index.Statement.{statement}
 use Rattle.quantizer.proofs.bin_index.Tie as tie

@@ -2,7 +2,7 @@
 use mathlib.Core.Path.{_∙_}
 use borrow.Author.Needs.{needs}
 use Rattle.pyramid.proofs.Refusals.{answers-stop, answers-second}
-use Rattle.bale.specs.Reader.{binsSectionRefusal}
+use Rattle.bale.specs.Definitions.Reader.{binsSectionRefusal}
 use Rattle.bale.proofs.Checks.{depth-in, bins-in}
 use Rattle.bale.proofs.checking.bins_section_refusal.Statement.{statement}
 use Rattle.bale.proofs.checking.bins_section_refusal.Tie as tie

@@ -2,7 +2,7 @@
 use mathlib.Core.Path.{_∙_}
 use borrow.Author.Needs.{needs}
 use Rattle.pyramid.proofs.Refusals.{answers-stop, answers-skip, answers-second}
-use Rattle.bale.specs.Reader.{bodyRefusal}
+use Rattle.bale.specs.Definitions.Reader.{bodyRefusal}
 use Rattle.bale.proofs.Checks.{depth-in, levels-in}
 use Rattle.bale.proofs.checking.body_refusal.Statement.{statement}
 use Rattle.bale.proofs.checking.body_refusal.Tie as tie

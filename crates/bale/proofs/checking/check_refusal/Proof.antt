@@ -2,7 +2,7 @@
 use mathlib.Core.Path.{sym, _∙_}
 use borrow.Author.Needs.{needs}
 use Rattle.pyramid.proofs.Refusals.{answers-stop, answers-second}
-use Rattle.bale.specs.Calls.{checkRefusal}
+use Rattle.bale.specs.Definitions.Calls.{checkRefusal}
 use Rattle.bale.proofs.Checks.{shaped-in}
 use Rattle.bale.proofs.checking.check_refusal.Statement.{statement}
 use Rattle.bale.proofs.checking.check_refusal.Tie as tie

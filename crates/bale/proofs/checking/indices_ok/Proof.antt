@@ -3,7 +3,7 @@ use mathlib.Core.Path.{_∙_}
 use Prim.Native.Nat.{_-_}
 use borrow.Author.Needs.{needs}
 use Rattle.pyramid.proofs.IndexRanges.{Ranged, ranged-start}
-use Rattle.bale.specs.Words.{indicesAt}
+use Rattle.bale.specs.Definitions.Words.{indicesAt}
 use Rattle.bale.proofs.Pieces.{index-kept}
 use Rattle.bale.proofs.SectionTests.{index-widens, indices-ranged}
 use Rattle.bale.proofs.checking.indices_ok.Statement.{statement}

@@ -2,7 +2,7 @@
 use mathlib.Core.Path.{sym, _∙_}
 use borrow.Author.Needs.{needs}
 use Rattle.pyramid.proofs.Refusals.{answers-stop}
-use Rattle.bale.specs.Calls.{readRefusal}
+use Rattle.bale.specs.Definitions.Calls.{readRefusal}
 use Rattle.bale.proofs.Checks.{shaped-in, places-wrong, places-right}
 use Rattle.bale.proofs.checking.read_refusal.Statement.{statement}
 use Rattle.bale.proofs.checking.read_refusal.Tie as tie

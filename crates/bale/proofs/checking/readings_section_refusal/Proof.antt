@@ -2,7 +2,7 @@
 use mathlib.Core.Path.{_∙_}
 use borrow.Author.Needs.{needs}
 use Rattle.pyramid.proofs.Refusals.{answers-stop, answers-skip, answers-second}
-use Rattle.bale.specs.Reader.{readingsSectionRefusal}
+use Rattle.bale.specs.Definitions.Reader.{readingsSectionRefusal}
 use Rattle.bale.proofs.checking.readings_section_refusal.Statement.{statement}
 use Rattle.bale.proofs.checking.readings_section_refusal.Tie as tie
 

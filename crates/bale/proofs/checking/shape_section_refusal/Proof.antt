@@ -1,7 +1,7 @@
 -- `bale::checking::shape_section_refusal` meets its contract: the section's refusal, then the shape's. Assumes nothing.
 use borrow.Author.Needs.{needs}
 use Rattle.pyramid.proofs.Refusals.{answers-stop, answers-second}
-use Rattle.bale.specs.Reader.{shapeSectionRefusal}
+use Rattle.bale.specs.Definitions.Reader.{shapeSectionRefusal}
 use Rattle.bale.proofs.Checks.{shape-in}
 use Rattle.pyramid.proofs.ShapeAnswers.{shape-answer}
 use Rattle.bale.proofs.checking.shape_section_refusal.Statement.{statement}

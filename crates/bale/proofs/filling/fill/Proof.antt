@@ -3,7 +3,7 @@ use native.Mathlib.Omega.{arith}
 use borrow.Author.Needs.{needs}
 use denote.Ref.{now}
 use Rattle.pyramid.proofs.Sizes.{total-is}
-use Rattle.bale.specs.Reader.{settingsIn}
+use Rattle.bale.specs.Definitions.Reader.{settingsIn}
 use Rattle.bale.proofs.AcceptedFiles.{accepted-file, filled}
 use Rattle.bale.proofs.filling.fill.Statement.{statement}
 use Rattle.bale.proofs.filling.fill.Tie as tie

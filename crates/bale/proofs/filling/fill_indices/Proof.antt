@@ -6,9 +6,9 @@ use native.Mathlib.Omega.{arith}
 use borrow.Author.Needs.{needs}
 use lib.IntN.{ℤ}
 use denote.Ref.{now}
-use Rattle.mathematics.specs.Splices.{splice}
+use Rattle.mathematics.specs.Inner.Splices.{splice}
 use Rattle.mathematics.proofs.Filling.{Filling, filling-start, filling-next, filling-end}
-use Rattle.bale.specs.Words.{u16At, wordIndex}
+use Rattle.bale.specs.Definitions.Words.{u16At, wordIndex}
 use Rattle.bale.proofs.Pieces.{index-kept, indices-table}
 use Rattle.bale.proofs.filling.fill_indices.Statement.{statement}
 use Rattle.bale.proofs.filling.fill_indices.Tie as tie

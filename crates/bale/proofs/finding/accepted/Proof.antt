@@ -5,8 +5,8 @@ use Prim.Native.Nat.{ℕ}
 use borrow.Author.Needs.{needs}
 use Rattle.pyramid.specs.declared.Settings.{Settings}
 use Rattle.bale.specs.declared.Note.{Note}
-use Rattle.bale.specs.Reader.{settingsIn, noteIn}
-use Rattle.bale.specs.Calls.{baleOf}
+use Rattle.bale.specs.Definitions.Reader.{settingsIn, noteIn}
+use Rattle.bale.specs.Definitions.Calls.{baleOf}
 use Rattle.bale.proofs.Answers.{bale-is}
 use Rattle.bale.proofs.finding.accepted.Statement.{statement}
 use Rattle.bale.proofs.finding.accepted.Tie as tie

@@ -1,6 +1,6 @@
 -- `bale::finding::note_in` meets its contract: reading by reading. Assumes nothing.
 use borrow.Author.Needs.{needs}
-use Rattle.bale.specs.Reader.{noteIn}
+use Rattle.bale.specs.Definitions.Reader.{noteIn}
 use Rattle.bale.proofs.finding.note_in.Statement.{statement}
 use Rattle.bale.proofs.finding.note_in.Tie as tie
 

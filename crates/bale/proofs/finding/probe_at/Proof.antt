@@ -1,6 +1,6 @@
 -- `bale::finding::probe_at` meets its contract: the kind and the number are those at the place. Assumes nothing.
 use borrow.Author.Needs.{needs}
-use Rattle.bale.specs.Reader.{probeAt}
+use Rattle.bale.specs.Definitions.Reader.{probeAt}
 use Rattle.bale.proofs.finding.probe_at.Statement.{statement}
 use Rattle.bale.proofs.finding.probe_at.Tie as tie
 

@@ -1,6 +1,6 @@
 -- `bale::finding::refused` meets its contract: by its definition. Assumes nothing.
 use mathlib.Core.Path.{refl}
-use Rattle.bale.specs.Calls.{noSettings, noNote}
+use Rattle.bale.specs.Definitions.Calls.{noSettings, noNote}
 use Rattle.bale.proofs.finding.refused.Statement.{statement}
 use Rattle.bale.proofs.finding.refused.Tie as tie
 

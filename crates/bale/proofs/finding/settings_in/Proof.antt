@@ -1,6 +1,6 @@
 -- `bale::finding::settings_in` meets its contract: field by field. Assumes nothing.
 use borrow.Author.Needs.{needs}
-use Rattle.bale.specs.Reader.{settingsIn}
+use Rattle.bale.specs.Definitions.Reader.{settingsIn}
 use Rattle.bale.proofs.finding.settings_in.Statement.{statement}
 use Rattle.bale.proofs.finding.settings_in.Tie as tie
 

@@ -3,7 +3,7 @@ use mathlib.Core.Path.{_∙_}
 use native.Mathlib.Omega.{arith}
 use borrow.Author.Tests.{le-leb, lt-leb}
 use borrow.Author.Needs.{needs}
-use Rattle.bale.specs.Reader.{slotIn}
+use Rattle.bale.specs.Definitions.Reader.{slotIn}
 use Rattle.bale.proofs.finding.slot_in.Statement.{statement}
 use Rattle.bale.proofs.finding.slot_in.Tie as tie
 

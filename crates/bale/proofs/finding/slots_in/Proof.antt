@@ -1,6 +1,6 @@
 -- `bale::finding::slots_in` meets its contract: slot by slot. Assumes nothing.
 use borrow.Author.Needs.{needs}
-use Rattle.mathematics.specs.Tables.{tabulate}
+use Rattle.mathematics.specs.Definitions.Tables.{tabulate}
 use Rattle.bale.proofs.finding.slots_in.Statement.{statement}
 use Rattle.bale.proofs.finding.slots_in.Tie as tie
 

@@ -3,7 +3,7 @@ use native.Mathlib.Omega.{arith}
 use borrow.Author.Needs.{needs}
 use denote.Ref.{now}
 use Rattle.pyramid.proofs.Sizes.{total-is}
-use Rattle.bale.specs.Files.{fileSize}
+use Rattle.bale.specs.Definitions.Files.{fileSize}
 use Rattle.bale.proofs.AcceptedFiles.{accepted-writing}
 use Rattle.bale.proofs.Pieces.{file-next}
 use Rattle.bale.proofs.putting.put_file.Statement.{statement}

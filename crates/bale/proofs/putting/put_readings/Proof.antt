@@ -3,7 +3,7 @@ use native.Mathlib.Omega.{arith}
 use borrow.Author.Needs.{needs}
 use denote.Ref.{now}
 use Rattle.mathematics.proofs.Tests.{both}
-use Rattle.bale.specs.Readings.{readingOk, noteOk}
+use Rattle.bale.specs.Definitions.Readings.{readingOk, noteOk}
 use Rattle.bale.proofs.Pieces.{readings-next}
 use Rattle.bale.proofs.putting.put_readings.Statement.{statement}
 use Rattle.bale.proofs.putting.put_readings.Tie as tie

@@ -1,7 +1,7 @@
 -- `bale::words::index_word` meets its contract: the word of a negative index is 32,768 or more, of another the index itself. Assumes nothing.
 use mathlib.Core.Path.{refl}
 use native.Mathlib.Omega.{arith}
-use Rattle.bale.specs.Words.{indexWord}
+use Rattle.bale.specs.Definitions.Words.{indexWord}
 use Rattle.bale.proofs.WordLaws.{negative, not-negative, low-is, low-cast}
 use Rattle.bale.proofs.words.index_word.Statement.{statement}
 use Rattle.bale.proofs.words.index_word.Tie as tie

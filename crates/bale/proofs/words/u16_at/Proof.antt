@@ -1,7 +1,7 @@
 -- `bale::words::u16_at` meets its contract: by the two bytes. Assumes nothing.
 use native.Mathlib.Omega.{arith}
 use borrow.Author.Needs.{needs}
-use Rattle.bale.specs.Words.{u16At}
+use Rattle.bale.specs.Definitions.Words.{u16At}
 use Rattle.bale.proofs.words.u16_at.Statement.{statement}
 use Rattle.bale.proofs.words.u16_at.Tie as tie
 

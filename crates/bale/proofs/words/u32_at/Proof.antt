@@ -1,7 +1,7 @@
 -- `bale::words::u32_at` meets its contract: by the two halves. Assumes nothing.
 use native.Mathlib.Omega.{arith}
 use borrow.Author.Needs.{needs}
-use Rattle.bale.specs.Words.{u32At}
+use Rattle.bale.specs.Definitions.Words.{u32At}
 use Rattle.bale.proofs.words.u32_at.Statement.{statement}
 use Rattle.bale.proofs.words.u32_at.Tie as tie
 

@@ -3,7 +3,7 @@ use mathlib.Core.Path.{_≡_, refl}
 use Prim.Native.Nat.{_-_}
 use native.Mathlib.Omega.{arith}
 use borrow.Author.Needs.{needs}
-use Rattle.bale.specs.Words.{wordIndex}
+use Rattle.bale.specs.Definitions.Words.{wordIndex}
 use Rattle.bale.proofs.words.word_index.Statement.{statement}
 use Rattle.bale.proofs.words.word_index.Tie as tie
 

@@ -6,9 +6,9 @@ use lib.ListN.{getD}
 use denote.Ref.{now}
 use Rattle.mathematics.proofs.Held.{held, held-is}
 use Rattle.mathematics.proofs.Filling.{Filling, filling-start, filling-next, filling-end}
-use Rattle.pyramid.specs.Weights.{weight}
-use Rattle.pyramid.specs.Edge.{reflect}
-use Rattle.pyramid.specs.Rows.{asLevel, columnSum, Within}
+use Rattle.pyramid.specs.Definitions.Weights.{weight}
+use Rattle.pyramid.specs.Definitions.Edge.{reflect}
+use Rattle.pyramid.specs.Inner.Rows.{asLevel, columnSum, Within}
 use Rattle.pyramid.proofs.TapSums.{within-more, within-held}
 use Rattle.pyramid.proofs.ColumnSums.{column-formed}
 use mathlib.Core.Path.{sym, ap, _∙_}

@@ -9,13 +9,13 @@ use lib.IntN.{ℤ, pos, _+ℤ_, _*ℤ_}
 use lib.ListN.{length, getD, set, length-set}
 use denote.Ref.{now}
 use borrow.Author.Needs.{needs, sfits-of}
-use Rattle.mathematics.specs.Sums.{sum}
+use Rattle.mathematics.specs.Definitions.Sums.{sum}
 use Rattle.mathematics.proofs.Held.{held, held-is}
 use Rattle.mathematics.proofs.Filling.{Filling, filling-start, filling-next, filling-end, filling-resume}
-use Rattle.quantizer.specs.Rounding.{roundDiv}
-use Rattle.pyramid.specs.Weights.{weight}
-use Rattle.pyramid.specs.Edge.{reflect}
-use Rattle.pyramid.specs.Rows.{Within, Small}
+use Rattle.quantizer.specs.Definitions.Rounding.{roundDiv}
+use Rattle.pyramid.specs.Definitions.Weights.{weight}
+use Rattle.pyramid.specs.Definitions.Edge.{reflect}
+use Rattle.pyramid.specs.Inner.Rows.{Within, Small}
 use Rattle.pyramid.proofs.TapSums.{within-held}
 use Rattle.pyramid.proofs.ColumnSums.{node-formed}
 use Rattle.pyramid.proofs.averaging.reduce_along.Statement.{statement}

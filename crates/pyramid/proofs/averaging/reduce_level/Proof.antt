@@ -9,17 +9,17 @@ use lib.IntN.{ℤ, pos, _*ℤ_}
 use lib.ListN.{length, getD}
 use denote.Ref.{now}
 use borrow.Author.Needs.{needs}
-use Rattle.mathematics.specs.Sums.{sum}
-use Rattle.quantizer.specs.Rounding.{roundDiv}
-use Rattle.mathematics.specs.Splices.{splice, part}
-use Rattle.mathematics.specs.Tables.{tabulate}
+use Rattle.mathematics.specs.Definitions.Sums.{sum}
+use Rattle.quantizer.specs.Definitions.Rounding.{roundDiv}
+use Rattle.mathematics.specs.Inner.Splices.{splice, part}
+use Rattle.mathematics.specs.Definitions.Tables.{tabulate}
 use Rattle.mathematics.proofs.Tables.{length-tabulate, tabulate-same}
 use Rattle.mathematics.proofs.Splices.{part-long, length-splice}
-use Rattle.pyramid.specs.Sizes.{Level}
-use Rattle.pyramid.specs.Weights.{weight}
-use Rattle.pyramid.specs.Edge.{reflect}
-use Rattle.pyramid.specs.Steps.{reduce}
-use Rattle.pyramid.specs.Rows.{asLevel, columnSum, Small, Source, halvedNodes, Reducible}
+use Rattle.pyramid.specs.Definitions.Sizes.{Level}
+use Rattle.pyramid.specs.Definitions.Weights.{weight}
+use Rattle.pyramid.specs.Definitions.Edge.{reflect}
+use Rattle.pyramid.specs.Definitions.Steps.{reduce}
+use Rattle.pyramid.specs.Inner.Rows.{asLevel, columnSum, Small, Source, halvedNodes, Reducible}
 use Rattle.pyramid.proofs.Weights.{weight-size}
 use Rattle.pyramid.proofs.TapSums.{within-more}
 use Rattle.pyramid.proofs.Buffers.{row-inside}

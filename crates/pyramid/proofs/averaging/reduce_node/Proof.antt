@@ -3,7 +3,7 @@ use mathlib.Core.Path.{ap, _∙_}
 use lib.IntN.{ℤ}
 use borrow.Author.Needs.{needs, sfits-of}
 use Rattle.mathematics.proofs.Held.{held-is}
-use Rattle.quantizer.specs.Rounding.{roundDiv}
+use Rattle.quantizer.specs.Definitions.Rounding.{roundDiv}
 use Rattle.pyramid.proofs.TapSums.{within-held}
 use Rattle.pyramid.proofs.ColumnSums.{five-unheld}
 use Rattle.pyramid.proofs.averaging.reduce_node.Statement.{statement}

@@ -3,7 +3,7 @@ use mathlib.Core.Path.{ap}
 use Prim.Native.Nat.{ℕ, _+_, _-_, _*_, _≤_, _<_}
 use native.Mathlib.Omega.{arith}
 use borrow.Author.Needs.{needs}
-use Rattle.pyramid.specs.Edge.{reflect}
+use Rattle.pyramid.specs.Definitions.Edge.{reflect}
 use Rattle.pyramid.proofs.Buffers.{row-inside, level-small}
 use Rattle.pyramid.proofs.averaging.row_start.Statement.{statement}
 use Rattle.pyramid.proofs.averaging.row_start.Tie as tie

@@ -2,7 +2,7 @@
 use native.Mathlib.Omega.{arith}
 use borrow.Author.Tests.{eq-eqb, ne-eqb}
 use borrow.Author.Needs.{needs}
-use Rattle.pyramid.specs.Bound.{hundredths, magnified}
+use Rattle.pyramid.specs.Definitions.Bound.{hundredths, magnified}
 use Rattle.pyramid.proofs.bounding.magnify.Statement.{statement}
 use Rattle.pyramid.proofs.bounding.magnify.Tie as tie
 

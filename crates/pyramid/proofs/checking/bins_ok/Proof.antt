@@ -6,9 +6,9 @@ use Prim.Native.Nat.{_≤_, _-_}
 use native.Mathlib.Omega.{arith}
 use borrow.Author.Needs.{needs}
 use borrow.Author.Tests.{not-true, not-false}
-use Rattle.mathematics.specs.Tests.{allBelow}
+use Rattle.mathematics.specs.Definitions.Tests.{allBelow}
 use Rattle.mathematics.proofs.Tests.{below-none, below-next, below-fails}
-use Rattle.pyramid.specs.Settings.{binsOk}
+use Rattle.pyramid.specs.Definitions.Settings.{binsOk}
 use Rattle.pyramid.proofs.SettingsTests.{slot}
 use Rattle.pyramid.proofs.checking.bins_ok.Statement.{statement}
 use Rattle.pyramid.proofs.checking.bins_ok.Tie as tie

@@ -1,6 +1,6 @@
 -- `pyramid::checking::kernel_ok` meets its contract. Assumes nothing.
 use borrow.Author.Tests.{le-leb, lt-leb}
-use Rattle.pyramid.specs.Settings.{kernelOk}
+use Rattle.pyramid.specs.Definitions.Settings.{kernelOk}
 use Rattle.pyramid.proofs.checking.kernel_ok.Statement.{statement}
 use Rattle.pyramid.proofs.checking.kernel_ok.Tie as tie
 

@@ -1,7 +1,7 @@
 -- `pyramid::checking::settings_refusal` meets its contract: the bins are looked at where the shape passes. Assumes nothing.
 use mathlib.Core.Path.{sym, _∙_}
 use borrow.Author.Needs.{needs}
-use Rattle.pyramid.specs.Refusals.{unless, first, settingsRefusal}
+use Rattle.pyramid.specs.Definitions.Refusals.{unless, first, settingsRefusal}
 use Rattle.pyramid.proofs.Refusals.{first-stop}
 use Rattle.pyramid.proofs.checking.settings_refusal.Statement.{statement}
 use Rattle.pyramid.proofs.checking.settings_refusal.Tie as tie

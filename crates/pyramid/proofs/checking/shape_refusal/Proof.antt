@@ -3,8 +3,8 @@ use mathlib.Core.Path.{_≡_, sym, _∙_}
 use mathlib.Core.Bool.{true}
 use borrow.Author.Tests.{not-true, not-false}
 use borrow.Author.Needs.{needs}
-use Rattle.pyramid.specs.Settings.{sizeOk}
-use Rattle.pyramid.specs.Refusals.{unless, first, shapeRefusal}
+use Rattle.pyramid.specs.Definitions.Settings.{sizeOk}
+use Rattle.pyramid.specs.Definitions.Refusals.{unless, first, shapeRefusal}
 use Rattle.pyramid.proofs.checking.shape_refusal.Statement.{statement}
 use Rattle.pyramid.proofs.checking.shape_refusal.Tie as tie
 

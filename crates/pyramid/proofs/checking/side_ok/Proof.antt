@@ -1,6 +1,6 @@
 -- `pyramid::checking::side_ok` meets its contract. Assumes nothing.
 use borrow.Author.Tests.{le-leb, lt-leb}
-use Rattle.pyramid.specs.Settings.{sideOk}
+use Rattle.pyramid.specs.Definitions.Settings.{sideOk}
 use Rattle.pyramid.proofs.checking.side_ok.Statement.{statement}
 use Rattle.pyramid.proofs.checking.side_ok.Tie as tie
 

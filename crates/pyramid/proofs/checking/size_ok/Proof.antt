@@ -1,7 +1,7 @@
 -- `pyramid::checking::size_ok` meets its contract: one comparison with the deepest depth tests the depth and both sides. Assumes nothing.
 use mathlib.Core.Path.{sym, _∙_}
 use borrow.Author.Needs.{needs}
-use Rattle.pyramid.specs.Settings.{sizeOk}
+use Rattle.pyramid.specs.Definitions.Settings.{sizeOk}
 use Rattle.pyramid.proofs.SettingsTests.{sides-positive, size-test}
 use Rattle.pyramid.proofs.checking.size_ok.Statement.{statement}
 use Rattle.pyramid.proofs.checking.size_ok.Tie as tie

@@ -1,6 +1,6 @@
 -- `pyramid::checking::slot_ok` meets its contract. Assumes nothing.
 use borrow.Author.Tests.{le-leb, lt-leb}
-use Rattle.pyramid.specs.Settings.{slotOk}
+use Rattle.pyramid.specs.Definitions.Settings.{slotOk}
 use Rattle.pyramid.proofs.checking.slot_ok.Statement.{statement}
 use Rattle.pyramid.proofs.checking.slot_ok.Tie as tie
 

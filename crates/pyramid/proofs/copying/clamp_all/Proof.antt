@@ -10,7 +10,7 @@ use Rattle.mathematics.proofs.Held.{held-is}
 use Rattle.mathematics.proofs.Splices.{splice-whole}
 use Rattle.mathematics.proofs.Tables.{length-tabulate, tabulate-map}
 use Rattle.mathematics.proofs.Filling.{Filling, filling-start, filling-next, filling-end}
-use Rattle.pyramid.specs.Rebuilding.{clamp}
+use Rattle.pyramid.specs.Definitions.Rebuilding.{clamp}
 use Rattle.pyramid.proofs.copying.clamp_all.Statement.{statement}
 use Rattle.pyramid.proofs.copying.clamp_all.Tie as tie
 

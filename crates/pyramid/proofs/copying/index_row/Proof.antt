@@ -5,7 +5,7 @@ use borrow.Author.Needs.{needs}
 use lib.IntN.{pos, _-ℤ_}
 use lib.ListN.{length, getD}
 use Rattle.mathematics.proofs.Filling.{Filling, filling-start, filling-next, filling-end}
-use Rattle.quantizer.specs.Bins.{binIndex}
+use Rattle.quantizer.specs.Definitions.Bins.{binIndex}
 use Rattle.pyramid.proofs.Copies.{difference-fits, index-fits, index-short}
 use Rattle.pyramid.proofs.copying.index_row.Statement.{statement}
 use Rattle.pyramid.proofs.copying.index_row.Tie as tie

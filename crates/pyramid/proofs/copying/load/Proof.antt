@@ -8,7 +8,7 @@ use denote.Ref.{now}
 use lib.IntN.{ℤ, pos}
 use lib.ListN.{length, getD}
 use mir.Facts.{fits-8-16}
-use Rattle.mathematics.specs.Splices.{splice}
+use Rattle.mathematics.specs.Inner.Splices.{splice}
 use Rattle.mathematics.proofs.Held.{held-is, natural-fits}
 use Rattle.mathematics.proofs.Tables.{tabulate-map}
 use Rattle.mathematics.proofs.Filling.{Filling, filling-start, filling-next, filling-end}

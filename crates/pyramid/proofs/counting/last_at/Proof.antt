@@ -4,7 +4,7 @@ use mathlib.Core.Path.{refl}
 use native.Mathlib.Omega.{arith}
 use borrow.Author.Needs.{needs}
 use lib.Pow.{shr-le}
-use Rattle.pyramid.specs.Sizes.{last}
+use Rattle.pyramid.specs.Definitions.Sizes.{last}
 use Rattle.pyramid.proofs.counting.last_at.Statement.{statement}
 use Rattle.pyramid.proofs.counting.last_at.Tie as tie
 

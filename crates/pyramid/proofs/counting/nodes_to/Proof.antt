@@ -7,8 +7,8 @@ use native.Mathlib.Numerals.{add-one}
 use native.Mathlib.Omega.{arith}
 use borrow.Author.Needs.{needs}
 use Rattle.pyramid.specs.declared.Settings.{Settings}
-use Rattle.pyramid.specs.Sizes.{columnsAt, rowsAt, nodesTo}
-use Rattle.pyramid.specs.Lawful.{Shaped}
+use Rattle.pyramid.specs.Definitions.Sizes.{columnsAt, rowsAt, nodesTo}
+use Rattle.pyramid.specs.Inner.Lawful.{Shaped}
 use Rattle.pyramid.proofs.Sizes.{nodesTo-most}
 use Rattle.pyramid.proofs.counting.nodes_to.Statement.{statement}
 use Rattle.pyramid.proofs.counting.nodes_to.Tie as tie

@@ -1,8 +1,8 @@
 -- `pyramid::counting::start_of` meets its contract: levels 0 to any level have at most T nodes. Assumes nothing.
 use native.Mathlib.Omega.{arith}
 use borrow.Author.Needs.{needs}
-use Rattle.pyramid.specs.Sizes.{total}
-use Rattle.pyramid.specs.Buffers.{start}
+use Rattle.pyramid.specs.Definitions.Sizes.{total}
+use Rattle.pyramid.specs.Definitions.Buffers.{start}
 use Rattle.pyramid.proofs.Sizes.{nodesTo-mono}
 use Rattle.pyramid.proofs.counting.start_of.Statement.{statement}
 use Rattle.pyramid.proofs.counting.start_of.Tie as tie

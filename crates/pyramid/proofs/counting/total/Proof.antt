@@ -1,6 +1,6 @@
 -- `pyramid::counting::total` meets its contract: T is the number of nodes of levels 0 to the depth. Assumes nothing.
 use borrow.Author.Needs.{needs}
-use Rattle.pyramid.specs.Sizes.{total}
+use Rattle.pyramid.specs.Definitions.Sizes.{total}
 use Rattle.pyramid.proofs.counting.total.Statement.{statement}
 use Rattle.pyramid.proofs.counting.total.Tie as tie
 

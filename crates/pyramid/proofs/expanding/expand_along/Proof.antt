@@ -9,8 +9,8 @@ use borrow.Author.Needs.{needs, sfits-of}
 use denote.Ref.{now}
 use Rattle.mathematics.proofs.Filling.{Filling, filling-start, filling-next, filling-on, filling-from}
 use Rattle.mathematics.proofs.Held.{held}
-use Rattle.pyramid.specs.Edge.{reflect}
-use Rattle.pyramid.specs.Rows.{Small}
+use Rattle.pyramid.specs.Definitions.Edge.{reflect}
+use Rattle.pyramid.specs.Inner.Rows.{Small}
 use Rattle.pyramid.proofs.TapSums.{within-held, Weight}
 use Rattle.pyramid.proofs.ExpandTaps.{node, even-node, odd-node}
 use Rattle.pyramid.proofs.expanding.expand_along.Statement.{statement}

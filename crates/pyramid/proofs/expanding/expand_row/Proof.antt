@@ -6,10 +6,10 @@ use native.Mathlib.Omega.{arith}
 use lib.IntN.{ℤ}
 use borrow.Author.Needs.{needs}
 use denote.Ref.{now}
-use Rattle.mathematics.specs.Splices.{splice}
+use Rattle.mathematics.specs.Inner.Splices.{splice}
 use Rattle.mathematics.proofs.Tables.{tabulate-same}
-use Rattle.pyramid.specs.Steps.{expand}
-use Rattle.pyramid.specs.Rows.{asLevel}
+use Rattle.pyramid.specs.Definitions.Steps.{expand}
+use Rattle.pyramid.specs.Inner.Rows.{asLevel}
 use Rattle.pyramid.proofs.ExpandTaps.{node}
 use Rattle.pyramid.proofs.ExpandRows.{sums, sums-small, node-expanded}
 use Rattle.pyramid.proofs.expanding.expand_row.Statement.{statement}

@@ -6,10 +6,10 @@ use lib.IntN.{ℤ, pos}
 use lib.ListN.{getD}
 use borrow.Author.Needs.{needs}
 use denote.Ref.{now}
-use Rattle.mathematics.specs.Tables.{tabulate}
-use Rattle.mathematics.specs.Splices.{splice}
-use Rattle.pyramid.specs.Rows.{asLevel, columnSum}
-use Rattle.pyramid.specs.Edge.{reflect}
+use Rattle.mathematics.specs.Definitions.Tables.{tabulate}
+use Rattle.mathematics.specs.Inner.Splices.{splice}
+use Rattle.pyramid.specs.Inner.Rows.{asLevel, columnSum}
+use Rattle.pyramid.specs.Definitions.Edge.{reflect}
 use Rattle.pyramid.proofs.TapSums.{within-held}
 use Rattle.pyramid.proofs.ExpandTaps.{even-formed, odd-formed}
 use Rattle.pyramid.proofs.Buffers.{source-row}

@@ -8,8 +8,8 @@ use lib.IntN.{ℤ}
 use lib.ListN.{length}
 use denote.Ref.{now}
 use borrow.Author.Needs.{needs}
-use Rattle.pyramid.specs.Sizes.{total}
-use Rattle.pyramid.specs.Lawful.{Lawful}
+use Rattle.pyramid.specs.Definitions.Sizes.{total}
+use Rattle.pyramid.specs.Inner.Lawful.{Lawful}
 use Rattle.pyramid.proofs.AverageLevels.{Averaged, averaged-first, averaged-long, averaged-small, averaged-next, averaged-last}
 use Rattle.pyramid.proofs.layering.average_levels.Statement.{statement}
 use Rattle.pyramid.proofs.layering.average_levels.Tie as tie

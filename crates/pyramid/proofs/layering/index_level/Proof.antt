@@ -7,13 +7,13 @@ use lib.IntN.{ℤ}
 use lib.ListN.{length}
 use denote.Ref.{now}
 use borrow.Author.Needs.{needs}
-use Rattle.mathematics.specs.Splices.{part}
+use Rattle.mathematics.specs.Inner.Splices.{part}
 use Rattle.pyramid.specs.declared.Settings.{Settings}
-use Rattle.pyramid.specs.Settings.{bin}
-use Rattle.pyramid.specs.Sizes.{columnsAt, rowsAt, total}
-use Rattle.pyramid.specs.Buffers.{start, readLevels}
-use Rattle.pyramid.specs.Rows.{Small, IndicesWithin}
-use Rattle.pyramid.specs.Layers.{IndexLevel}
+use Rattle.pyramid.specs.Definitions.Settings.{bin}
+use Rattle.pyramid.specs.Definitions.Sizes.{columnsAt, rowsAt, total}
+use Rattle.pyramid.specs.Definitions.Buffers.{start, readLevels}
+use Rattle.pyramid.specs.Inner.Rows.{Small, IndicesWithin}
+use Rattle.pyramid.specs.Inner.Layers.{IndexLevel}
 use Rattle.pyramid.proofs.Sizes.{total-most}
 use Rattle.pyramid.proofs.Rendering.{rendering-start, rendering-end}
 use Rattle.pyramid.proofs.PredictedRows.{Roomy, roomy-zeros, roomy-columns, roomy-predicted, rowOf, next-place, given-row, row-room}

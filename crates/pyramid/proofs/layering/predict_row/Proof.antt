@@ -5,12 +5,12 @@ use native.Mathlib.Numerals.{add-one}
 use native.Mathlib.Omega.{arith}
 use lib.IntN.{pos}
 use lib.ListN.{length}
-use Rattle.mathematics.specs.Tables.{tabulate}
-use Rattle.mathematics.specs.Splices.{splice}
+use Rattle.mathematics.specs.Definitions.Tables.{tabulate}
+use Rattle.mathematics.specs.Inner.Splices.{splice}
 use denote.Ref.{now}
 use borrow.Author.Needs.{needs}
-use Rattle.pyramid.specs.Sizes.{columnsAt, rowsAt, nodesAt, total}
-use Rattle.pyramid.specs.Buffers.{start}
+use Rattle.pyramid.specs.Definitions.Sizes.{columnsAt, rowsAt, nodesAt, total}
+use Rattle.pyramid.specs.Definitions.Buffers.{start}
 use Rattle.pyramid.proofs.Sizes.{total-most}
 use Rattle.pyramid.proofs.LevelParts.{start-below, level-inside}
 use Rattle.pyramid.proofs.Prediction.{top-row, below-row, below-source, below-sizes}

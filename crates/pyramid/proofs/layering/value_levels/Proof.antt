@@ -6,8 +6,8 @@ use lib.IntN.{ℤ}
 use borrow.Author.Needs.{needs}
 use denote.Ref.{now}
 use Rattle.pyramid.specs.declared.Settings.{Settings}
-use Rattle.pyramid.specs.Sizes.{nodesAt}
-use Rattle.pyramid.specs.Buffers.{start}
+use Rattle.pyramid.specs.Definitions.Sizes.{nodesAt}
+use Rattle.pyramid.specs.Definitions.Buffers.{start}
 use Rattle.pyramid.proofs.ValueLevels.{Rebuildable, Rebuilding, rebuilding-first, level-ready, level-done, rebuilding-long, rebuilding-next, rebuilding-last}
 use Rattle.pyramid.proofs.layering.value_levels.Statement.{statement}
 use Rattle.pyramid.proofs.layering.value_levels.Tie as tie

@@ -8,11 +8,11 @@ use borrow.Author.Needs.{needs}
 use borrow.Author.Tests.{not-true, not-false}
 use lib.Dec.{leb}
 use lib.IntN.{ℤ, natAbs}
-use Rattle.mathematics.specs.Tests.{all}
+use Rattle.mathematics.specs.Definitions.Tests.{all}
 use Rattle.pyramid.specs.declared.Settings.{Settings}
-use Rattle.pyramid.specs.Buffers.{stack, readLevels}
-use Rattle.pyramid.specs.Rebuilding.{valueOf}
-use Rattle.pyramid.specs.Refusals.{limit, valuesOk}
+use Rattle.pyramid.specs.Definitions.Buffers.{stack, readLevels}
+use Rattle.pyramid.specs.Definitions.Rebuilding.{valueOf}
+use Rattle.pyramid.specs.Definitions.Refusals.{limit, valuesOk}
 use Rattle.pyramid.proofs.LevelParts.{stack-bottom, stack-fails, stack-passes}
 use Rattle.pyramid.proofs.layering.values_ok.Statement.{statement}
 use Rattle.pyramid.proofs.layering.values_ok.Tie as tie

@@ -1,7 +1,7 @@
 -- `pyramid::taps::reflected` meets its contract. Assumes nothing.
 use native.Mathlib.Omega.{arith}
 use borrow.Author.Needs.{needs}
-use Rattle.pyramid.specs.Edge.{reflect}
+use Rattle.pyramid.specs.Definitions.Edge.{reflect}
 use Rattle.pyramid.proofs.taps.reflected.Statement.{statement}
 use Rattle.pyramid.proofs.taps.reflected.Tie as tie
 

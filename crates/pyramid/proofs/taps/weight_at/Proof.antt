@@ -6,8 +6,8 @@ use borrow.Author.Needs.{needs}
 use mir.Syntax.{w32}
 use Rattle.mathematics.proofs.Held.{held, held-is}
 use Rattle.mathematics.proofs.IntegerLaws.{fits-by}
-use Rattle.pyramid.specs.Weights.{weights, weight}
-use Rattle.pyramid.specs.Rows.{Within}
+use Rattle.pyramid.specs.Definitions.Weights.{weights, weight}
+use Rattle.pyramid.specs.Inner.Rows.{Within}
 use Rattle.pyramid.proofs.Weights.{entry, weight-entry, weight-within}
 use Rattle.pyramid.proofs.TapSums.{within-more}
 use Rattle.pyramid.proofs.taps.weight_at.Statement.{statement}

@@ -1,0 +1,6 @@
+pub mod Words
+pub mod Readings
+pub mod Sections
+pub mod Files
+pub mod Reader
+pub mod Calls

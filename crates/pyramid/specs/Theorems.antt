@@ -1,0 +1,3 @@
+pub mod Accuracy
+pub mod WorkedPieces
+pub mod Ranges
