@@ -1,3 +1,4 @@
+pub mod Distances
 pub mod Sums
 pub mod Tables
 pub mod Tests

@@ -8,6 +8,7 @@ use native.Mathlib.Decide.{decLt}
 use lib.IntN.{ℤ, pos, negsuc}
 use lib.ListN.{length, getD, List·getD-eq-default}
 use Rattle.mathematics.proofs.Distance.{Near, near-pos, near-negative}
+use Rattle.mathematics.specs.Definitions.Distances.{distance}
 use Rattle.pyramid.specs.declared.Settings.{Settings}
 use Rattle.pyramid.specs.Definitions.Sizes.{Level, last}
 use Rattle.pyramid.specs.Definitions.Pyramid.{average, index}
@@ -16,7 +17,7 @@ use Rattle.pyramid.specs.Definitions.Bound.{boundAt}
 use Rattle.pyramid.specs.Definitions.Buffers.{Bytes, raster, pixels, readLevels}
 use Rattle.pyramid.specs.Definitions.Calls.{leaves, coding, rebuilding}
 use Rattle.pyramid.specs.Definitions.Generations.{Generation, coded, rebuiltFrom, outcome, leftBy, countedBound, atHand, boundSum}
-use Rattle.pyramid.specs.Theorems.Accuracy.{distance, LevelsWithin, Accuracy}
+use Rattle.pyramid.specs.Theorems.Accuracy.{LevelsWithin, Accuracy}
 use Rattle.pyramid.proofs.Sizes.{last-zero}
 use Rattle.pyramid.proofs.Within.{NearAt, within}
 use Rattle.pyramid.specs.Inner.Accepted.{Accepted}

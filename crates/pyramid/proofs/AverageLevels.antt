@@ -12,7 +12,7 @@ use Rattle.pyramid.specs.Definitions.Sizes.{Level, columnsAt, rowsAt, to
 use Rattle.pyramid.specs.Definitions.Pyramid.{reduced, average}
 use Rattle.pyramid.specs.Definitions.Buffers.{levelRaster, allLevels, start, readLevels}
 use Rattle.pyramid.specs.Definitions.Refusals.{limit}
-use Rattle.pyramid.specs.Theorems.Ranges.{CodingRanges}
+use Rattle.pyramid.specs.Inner.Ranges.{CodingRanges}
 use Rattle.pyramid.specs.Inner.Layers.{LevelSmall}
 use Rattle.pyramid.proofs.Buffers.{raster-same}
 use Rattle.pyramid.proofs.LevelPlaces.{placed, length-placed, placed-first, placed-next, read-placed, placed-all}

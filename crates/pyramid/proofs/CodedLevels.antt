@@ -15,7 +15,7 @@ use Rattle.pyramid.specs.Definitions.Rebuilding.{valueOf}
 use Rattle.pyramid.specs.Definitions.Buffers.{Bytes, pixels, allLevels, readLevels}
 use Rattle.pyramid.specs.Definitions.Refusals.{unless, first, limit, settingsRefusal, buffersRefusal, valuesOk, codingRefusal}
 use Rattle.pyramid.specs.Definitions.Calls.{coding, rebuilding}
-use Rattle.pyramid.specs.Theorems.Ranges.{CodingRanges}
+use Rattle.pyramid.specs.Inner.Ranges.{CodingRanges}
 use Rattle.pyramid.specs.Inner.Accepted.{Accepted}
 use Rattle.pyramid.proofs.Refusals.{first-none, accepted-coding, rebuilding-lengths, leaves-new}
 use Rattle.pyramid.proofs.Buffers.{length-all, read-stack, all-stack}

@@ -16,7 +16,7 @@ use Rattle.pyramid.specs.Definitions.Bound.{magnified}
 use Rattle.pyramid.specs.Definitions.Buffers.{raster, levelRaster, start, readLevels}
 use Rattle.pyramid.specs.Definitions.Refusals.{limit}
 use Rattle.pyramid.specs.Inner.Rows.{asLevel, Small, Source, halvedNodes, Reducible}
-use Rattle.pyramid.specs.Theorems.Ranges.{EachNode}
+use Rattle.pyramid.specs.Inner.Ranges.{EachNode}
 use Rattle.pyramid.specs.Inner.Layers.{LevelSmall}
 use Rattle.pyramid.proofs.Sizes.{last-suc, last-most, last-least, last-even}
 use Rattle.pyramid.proofs.Steps.{near-reduce, near-expand}

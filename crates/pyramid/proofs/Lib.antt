@@ -4,6 +4,7 @@ pub mod Weights
 pub mod Windows
 pub mod Edge
 pub mod Steps
+pub mod Differences
 pub mod Within
 pub mod Refusals
 pub mod Buffers

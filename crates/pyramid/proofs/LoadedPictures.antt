@@ -14,7 +14,7 @@ use Rattle.pyramid.specs.Definitions.Pyramid.{average, index}
 use Rattle.pyramid.specs.Definitions.Buffers.{Bytes, pixels, allLevels, start, readLevels}
 use Rattle.pyramid.specs.Definitions.Calls.{inWork}
 use Rattle.pyramid.specs.Definitions.Refusals.{limit}
-use Rattle.pyramid.specs.Theorems.Ranges.{EachNode, CodingRanges}
+use Rattle.pyramid.specs.Inner.Ranges.{EachNode, CodingRanges}
 use Rattle.pyramid.specs.Inner.Layers.{indexAt, LevelSmall, Holds}
 use Rattle.pyramid.proofs.Buffers.{inside, length-all, stack-same}
 use Rattle.pyramid.proofs.LevelParts.{start-bottom}

@@ -17,7 +17,7 @@ use Rattle.pyramid.specs.declared.Settings.{Settings}
 use Rattle.pyramid.specs.Inner.Lawful.{Lawful}
 use Rattle.pyramid.specs.Definitions.Sizes.{Level, columnsAt, rowsAt, total}
 use Rattle.pyramid.specs.Definitions.Buffers.{start, readLevels}
-use Rattle.pyramid.specs.Theorems.Ranges.{EachNode}
+use Rattle.pyramid.specs.Inner.Ranges.{EachNode}
 use Rattle.pyramid.specs.Inner.Rows.{Within, Small}
 use Rattle.pyramid.specs.Inner.Layers.{predicted}
 use Rattle.pyramid.proofs.Sizes.{last-most}

@@ -24,7 +24,7 @@ use Rattle.pyramid.specs.Definitions.Rebuilding.{valueOf, rebuild, rebui
 use Rattle.pyramid.specs.Definitions.Buffers.{Bytes, pixels, readLevels}
 use Rattle.pyramid.specs.Definitions.Bound.{magnified, tolerance}
 use Rattle.pyramid.specs.Definitions.Refusals.{limit, valuesOk}
-use Rattle.pyramid.specs.Theorems.Ranges.{EachNode, ReduceSums, ExpandSums, CodingRanges, RebuildingRanges, Fits32}
+use Rattle.pyramid.specs.Inner.Ranges.{EachNode, ReduceSums, ExpandSums, CodingRanges, RebuildingRanges, Fits32}
 use Rattle.pyramid.specs.Inner.Lawful.{Kernel, Bin, Lawful}
 use Rattle.pyramid.proofs.Sizes.{last-suc, last-least}
 use Rattle.pyramid.proofs.Weights.{weight-size, even-size, reach-most, hundredths-most}
@@ -32,6 +32,7 @@ use Rattle.pyramid.proofs.Windows.{window-sums}
 use Rattle.pyramid.proofs.Edge.{reduce-inside, expand-inside}
 use Rattle.pyramid.proofs.Buffers.{stack-all}
 use Rattle.pyramid.proofs.Steps.{spread, near-reduce, reduce-constant, expand-constant}
+use Rattle.pyramid.proofs.Differences.{difference-top, difference-below}
 use Rattle.pyramid.proofs.Within.{NearAt, near-index, near-expanded}
 use Rattle.pyramid.proofs.LevelSteps.{level-wide, level-high}
 
@@ -88,19 +89,19 @@ module _ (s : Settings) (law : Lawful s) where
     small-average l hl i j hi hj =
         near-more (omega (arith, average-room l (omega (arith, law .shaped .deep)))) (near-trans (near-average l hl i j hi hj) (near-zero {e = 127} (pos 127) (omega arith)))
 
-    small-difference : (d l : ℕ) → l + d ≡ s .depth → NearAt s law l 3968 (difference s p d l) (λ i j. pos 0)
-    unfolding difference
-    small-difference zero l e i j hi hj = small-average l (omega arith) i j hi hj
+    small-difference : (d l : ℕ) → l + d ≡ s .depth → NearAt s law l 3968 (difference s p l) (λ i j. pos 0)
+    small-difference zero l e i j hi hj = rw (difference-top s p l (omega arith) i j) (small-average l (omega arith) i j hi hj)
     small-difference (suc d) l e i j hi hj =
-        near-more (difference-room l (omega (arith, law .shaped .deep)))
+        rw (difference-below s p l (omega arith) i j)
+        (near-more (difference-room l (omega (arith, law .shaped .deep)))
         (near-sub (near-average l (omega arith) i j hi hj)
-        (near-constant l (omega arith) (spreadTo (suc l)) (average s p (suc l)) (pos 127) (near-average (suc l) (omega arith)) i j hi hj))
+        (near-constant l (omega arith) (spreadTo (suc l)) (average s p (suc l)) (pos 127) (near-average (suc l) (omega arith)) i j hi hj)))
 
     small-value : (l : ℕ) → l ≤ s .depth → NearAt s law l limit (λ i j. valueOf s l (index s p l i j)) (λ i j. pos 0)
     unfolding index tolerance
     small-value l hl i j hi hj =
         near-more (omega (arith, law .binned l hl .most))
-        (near-trans (near-index s l (difference s p (s .depth - l) l i j) (law .binned l hl)) (small-difference (s .depth - l) l (omega arith) i j hi hj))
+        (near-trans (near-index s l (difference s p l i j) (law .binned l hl)) (small-difference (s .depth - l) l (omega arith) i j hi hj))
 
   -- ---- rebuilt values
 

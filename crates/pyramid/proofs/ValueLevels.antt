@@ -16,7 +16,7 @@ use Rattle.pyramid.specs.Inner.Lawful.{Lawful}
 use Rattle.pyramid.specs.Definitions.Sizes.{Level, columnsAt, rowsAt, nodesAt, total}
 use Rattle.pyramid.specs.Definitions.Rebuilding.{valueOf, rebuild, rebuilt}
 use Rattle.pyramid.specs.Definitions.Buffers.{levelRaster, allLevels, start, readLevels}
-use Rattle.pyramid.specs.Theorems.Ranges.{EachNode, RebuildingRanges}
+use Rattle.pyramid.specs.Inner.Ranges.{EachNode, RebuildingRanges}
 use Rattle.pyramid.specs.Inner.Rows.{ValuesWithin}
 use Rattle.pyramid.specs.Inner.Layers.{predicted, valueAt, LevelSmall, ValueLevel}
 use Rattle.pyramid.proofs.Buffers.{inside, raster-same}

@@ -13,7 +13,8 @@ use Rattle.mathematics.specs.Definitions.Tests.{allBelow}
 use Rattle.mathematics.specs.Definitions.Sums.{sum}
 use Rattle.mathematics.proofs.Tests.{below-at, between-at}
 use Rattle.mathematics.proofs.Sums.{total}
-use Rattle.pyramid.specs.Definitions.Weights.{weights, fromCentre, weight}
+use Rattle.mathematics.specs.Definitions.Distances.{distance}
+use Rattle.pyramid.specs.Definitions.Weights.{weights, weight}
 use Rattle.pyramid.specs.Definitions.Steps.{evenWeight}
 use Rattle.pyramid.specs.Inner.Rows.{Within}
 use Rattle.pyramid.specs.Definitions.Bound.{hundredths}
@@ -46,7 +47,7 @@ entry k d = getD (getD weights (k - 3) []) d (pos 0)
 
 pub weight-entry : (k d : ℕ) → entry k d ≡ weight k (2 + d)
 unfolding weight weights
-weight-entry k d = let e : d ≡ fromCentre (2 + d) = omega arith in ap (λ (x : ℕ). entry k x) e
+weight-entry k d = let e : d ≡ distance (2 + d) 2 = omega arith in ap (λ (x : ℕ). entry k x) e
 
 -- at most 12, 7 and 2 for distance 0, 1, 2
 pub weight-within : {k : ℕ} → Kernel k → (d : ℕ) → d < 3 → Within (12 - 5 * d) (weight k (2 + d))
@@ -61,7 +62,7 @@ weight-within {k} h d l = record {
 
 pub weight-symmetric : (k t : ℕ) → t ≤ 4 → weight k (4 - t) ≡ weight k t
 unfolding weight
-weight-symmetric k t h = let e : fromCentre (4 - t) ≡ fromCentre t = omega arith in rw e
+weight-symmetric k t h = let e : distance (4 - t) 2 ≡ distance t 2 = omega arith in rw e
 
 pub weight-sum : {k : ℕ} → Kernel k → sum 5 (weight k) ≡ pos 20
 weight-sum {k} h = is-eq (sum 5 (weight k)) 20 (at-kernel (λ k. is (sum 5 (weight k)) 20) (unfold allBelow is sum weight weights in tt) h)

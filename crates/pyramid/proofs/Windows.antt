@@ -11,9 +11,10 @@ use Rattle.mathematics.proofs.IntegerLaws.{*ℤ-assoc, abs-*ℤ, abs-product}
 use Rattle.mathematics.proofs.Distance.{Near, near-mul}
 use Rattle.mathematics.proofs.Sums.{total, mul-total, total-mul, total-mono, near-sum, abs-of-sum, sum-scale, sum-swap}
 use Rattle.pyramid.specs.Definitions.Sizes.{Level}
-use Rattle.pyramid.specs.Definitions.Steps.{window, rowSum}
+use Rattle.pyramid.specs.Definitions.Steps.{window}
+use Rattle.pyramid.specs.Inner.Ranges.{rowSum}
 use Rattle.pyramid.specs.Inner.Rows.{columnSum}
-use Rattle.pyramid.specs.Theorems.Ranges.{WindowSums}
+use Rattle.pyramid.specs.Inner.Ranges.{WindowSums}
 use Rattle.pyramid.proofs.Weights.{size}
 
 factor : (a b v : ℤ) → a *ℤ b *ℤ v ≡ b *ℤ (a *ℤ v)

@@ -1,8 +1,8 @@
 -- Rebuilt values lie within each level's bound of the averages. Assumes nothing.
 use mathlib.Core.Path.{_≡_, subst}
-use Prim.Native.Nat.{ℕ, zero, suc, _+_, _-_, _≤_}
+use Prim.Native.Nat.{ℕ, zero, suc, _+_, _≤_}
 use native.Mathlib.Omega.{arith}
-use lib.IntN.{ℤ, -ℤ-+ℤ-cancel}
+use lib.IntN.{ℤ, _-ℤ_, -ℤ-+ℤ-cancel}
 use Rattle.mathematics.proofs.Distance.{Near, near-more, near-add}
 use Rattle.quantizer.proofs.Bins.{bin-near}
 use Rattle.pyramid.specs.declared.Settings.{Settings}
@@ -14,6 +14,7 @@ use Rattle.pyramid.specs.Definitions.Bound.{magnified, tolerance, bound}
 use Rattle.pyramid.specs.Inner.Lawful.{Bin, Lawful}
 use Rattle.pyramid.proofs.Sizes.{last-suc, last-least}
 use Rattle.pyramid.proofs.Steps.{NearLevel, near-expand}
+use Rattle.pyramid.proofs.Differences.{difference-top, difference-below}
 
 -- a value of a level lies within the level's tolerance of its index's value
 pub near-index : (s : Settings) (l : ℕ) (x : ℤ) → Bin (bin s l) → Near (tolerance s l) (valueOf s l (indexOf s l x)) x
@@ -32,18 +33,18 @@ module _ (s : Settings) (law : Lawful s) where
       i j (omega (arith, last-suc (s .columns) l)) (omega (arith, last-suc (s .rows) l))
 
   module _ (p : Level) (m : ℕ → Level) (indices : (l : ℕ) → l ≤ s .depth → (i j : ℕ) → i ≤ last (s .columns) l → j ≤ last (s .rows) l → m l i j ≡ index s p l i j) where
-    near-values : (d l : ℕ) → l + d ≡ s .depth → NearAt l (tolerance s l) (λ i j. valueOf s l (m l i j)) (difference s p d l)
+    near-values : (l : ℕ) → l ≤ s .depth → NearAt l (tolerance s l) (λ i j. valueOf s l (m l i j)) (difference s p l)
     unfolding index
-    near-values d l e i j hi hj =
-        let above : s .depth - l ≡ d = omega arith in
-        rw (indices l (omega arith) i j hi hj, above) (near-index s l (difference s p d l i j) (law .binned l (omega arith)))
+    near-values l h i j hi hj = rw (indices l h i j hi hj) (near-index s l (difference s p l i j) (law .binned l h))
 
     pub within : (d l : ℕ) → l + d ≡ s .depth → NearAt l (bound s d l) (rebuild s m d l) (average s p l)
-    unfolding bound rebuild difference
-    within zero l e i j hi hj = near-values zero l e i j hi hj
+    unfolding bound rebuild
+    within zero l e i j hi hj = subst (Near (tolerance s l) (valueOf s l (m l i j))) (difference-top s p l (omega arith) i j) (near-values l (omega arith) i j hi hj)
     within (suc d) l e i j hi hj =
+        let own : Near (tolerance s l) (valueOf s l (m l i j)) (average s p l i j -ℤ expanded s l (average s p (suc l)) i j) =
+        subst (Near (tolerance s l) (valueOf s l (m l i j))) (difference-below s p l (omega arith) i j) (near-values l (omega arith) i j hi hj) in
         near-more (omega arith)
         (subst (Near (tolerance s l + magnified (s .kernel) (bound s d (suc l))) (rebuild s m (suc d) l i j))
         (-ℤ-+ℤ-cancel (average s p l i j) (expanded s l (average s p (suc l)) i j))
-        (near-add (near-values (suc d) l e i j hi hj)
+        (near-add own
         (near-expanded l (omega arith) (bound s d (suc l)) (rebuild s m d (suc l)) (average s p (suc l)) (within d (suc l) (omega arith)) i j hi hj)))

@@ -1,4 +1,5 @@
 pub mod Lawful
 pub mod Accepted
+pub mod Ranges
 pub mod Rows
 pub mod Layers

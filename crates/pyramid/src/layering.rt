@@ -18,7 +18,7 @@ ghost use Rattle.pyramid.specs.Definitions.Buffers.{levelRaster, allLeve
 ghost use lib.Dec.{leb};
 ghost use Rattle.mathematics.specs.Definitions.Tests.{all};
 ghost use Rattle.pyramid.specs.Definitions.Refusals.{limit, valuesOk};
-ghost use Rattle.pyramid.specs.Theorems.Ranges.{CodingRanges, RebuildingRanges};
+ghost use Rattle.pyramid.specs.Inner.Ranges.{CodingRanges, RebuildingRanges};
 ghost use Rattle.pyramid.specs.Inner.Layers.{predicted, indexAt, valueAt, LevelSmall, IndexLevel, Holds, ValueLevel};
 
 // The averages of the level above l, from those of level l.

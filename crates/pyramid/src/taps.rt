@@ -22,7 +22,7 @@ pub fn weight_at(kernel: u16, distance: usize) -> i32
 
 // The column (row) that place p stands for, where z is the last: column p - 2, reflected at the nearer edge.
 pub fn reflected(z: usize, p: usize) -> usize
-    requires { ⌜ (z ≤ 128) × (p ≤ 2 * z + 2) ⌝ }
+    requires { ⌜ (1 ≤ z) × (z ≤ 128) × (2 ≤ z + p) × (p ≤ 2 * z + 2) ⌝ }
     ensures { λ r. ⌜ r ≡ reflect z p ⌝ }
 {
     if p < 2 {

@@ -1,5 +1,7 @@
 -- The averages g, the differences L and the indices of a picture (document 01, "Pyramid steps"). Assumes nothing.
-use Prim.Native.Nat.{ℕ, zero, suc, _-_}
+use mathlib.Core.Bool.{cond}
+use Prim.Native.Nat.{ℕ, zero, suc}
+use lib.Dec.{eqb}
 use lib.IntN.{ℤ, _-ℤ_}
 use Rattle.quantizer.specs.Definitions.Bins.{binIndex}
 use Rattle.pyramid.specs.declared.Settings.{Settings}
@@ -24,11 +26,10 @@ module _ (s : Settings) where
   average p zero = p
   average p (suc l) = reduced l (average p l)
 
-  -- L of level l, which has d levels above it: that of level N is g; below it L is g less EXPAND of the next g up
-  unfoldable pub difference : Level → ℕ → ℕ → Level
-  difference p zero l i j = average p l i j
-  difference p (suc d) l i j = average p l i j -ℤ expanded l (average p (suc l)) i j
+  -- L of level l: at level N it is g, else g less EXPAND of the next g up
+  unfoldable pub difference : Level → ℕ → Level
+  difference p l i j = cond (eqb l (s .depth)) (average p l i j) (average p l i j -ℤ expanded l (average p (suc l)) i j)
 
   -- the indices of level l
   unfoldable pub index : Level → ℕ → Level
-  index p l i j = indexOf l (difference p (s .depth - l) l i j)
+  index p l i j = indexOf l (difference p l i j)

@@ -13,22 +13,18 @@ use Rattle.pyramid.specs.Definitions.Edge.{reflect}
 unfoldable pub window : (ℕ → ℤ) → (ℕ → ℤ) → (ℕ → ℕ) → (ℕ → ℕ) → Level → ℤ
 window a b x y g = sum 5 (λ n. sum 5 (λ m. a m *ℤ b n *ℤ g (x m) (y n)))
 
--- the part of a window that lies in one row, without that row's weight: a window is the sum of these, each times its row's weight
-abbrev pub rowSum : (ℕ → ℤ) → (ℕ → ℕ) → (ℕ → ℕ) → Level → ℕ → ℤ
-rowSum a x y g n = sum 5 (λ m. a m *ℤ g (x m) (y n))
-
 -- Below, zc and zr are the last column and row of the level that is read.
 
--- REDUCE: node (i, j) is the sum of 25 products of two weights and the value at (2i + m, 2j + n), over 400. Tap t is m = t - 2, so that
--- column 2i + m stands at place 2i + t
+-- REDUCE: node (i, j) is the sum of 25 products of two weights and the value at (2i + m, 2j + n), over 400. Tap t stands for m = t - 2,
+-- and place p for column p - 2: column 2i + m = 2i + t - 2 is place 2i + t
 unfoldable pub reduce : (k zc zr : ℕ) → Level → Level
 reduce k zc zr g i j = roundDiv (window (weight k) (weight k) (λ t. reflect zc (2 * i + t)) (λ t. reflect zr (2 * j + t)) g) 400
 
--- the weight of tap t in EXPAND of column i: none where i - m is odd and (i - m)/2 not whole
+-- the weight of tap t in EXPAND of column i: none where i - m is odd and (i - m)/2 not whole; i - m = i + 2 - t is odd where i + t is
 unfoldable pub evenWeight : ℕ → ℕ → ℕ → ℤ
 evenWeight k i t = cond (eqb ((i + t) % 2) 0) (weight k t) (pos 0)
 
--- the place of column (i - m)/2
+-- the place of column (i - m)/2, which is 2 more: with m = t - 2 it is (i - (t - 2))/2 + 2 = (i + 6 - t)/2
 abbrev pub halved : ℕ → ℕ → ℕ
 halved i t = (i + 6 - t) / 2
 

@@ -11,7 +11,7 @@ use Rattle.pyramid.specs.Definitions.Pyramid.{expanded, indexOf}
 use Rattle.pyramid.specs.Definitions.Rebuilding.{valueOf}
 use Rattle.pyramid.specs.Definitions.Buffers.{readLevels}
 use Rattle.pyramid.specs.Definitions.Refusals.{limit}
-use Rattle.pyramid.specs.Theorems.Ranges.{EachNode}
+use Rattle.pyramid.specs.Inner.Ranges.{EachNode}
 
 module _ (s : Settings) where
   -- level l, which has d levels above it, as EXPAND of the level above it predicts it; 0 at the top

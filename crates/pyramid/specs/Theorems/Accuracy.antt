@@ -4,14 +4,12 @@ use mathlib.Core.List.{List, [], _∷_}
 use Prim.Native.Nat.{ℕ, _+_, _-_, _≤_, _<_}
 use lib.IntN.{natAbs, _-ℤ_}
 use lib.ListN.{length, getD}
+use Rattle.mathematics.specs.Definitions.Distances.{distance}
 use Rattle.pyramid.specs.Definitions.Sizes.{columnsAt, rowsAt}
 use Rattle.pyramid.specs.Definitions.Pyramid.{average}
 use Rattle.pyramid.specs.Definitions.Bound.{boundAt}
 use Rattle.pyramid.specs.Definitions.Buffers.{pixels, readLevels}
 use Rattle.pyramid.specs.Definitions.Generations.{Generation, rebuiltFrom, outcome, leftBy, atHand, boundSum}
-
-abbrev pub distance : ℕ → ℕ → ℕ
-distance a b = (a - b) + (b - a)
 
 -- node by node, at every level: the rebuilt values that the generation's rebuilding leaves in the work buffer lie within that level's bound
 -- of the averages of the picture that it coded

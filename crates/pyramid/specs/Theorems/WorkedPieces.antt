@@ -46,7 +46,7 @@ lent = replicate 13 (pos 0)
 
 pub record WorkedPieces : Type 0 where
   pub averageA : raster 2 2 (average pieceA (pixels 3 pictureA) 1) ≡ replicate 4 (pos 25)
-  pub differenceA : raster 3 3 (difference pieceA (pixels 3 pictureA) 1 0) ≡ centred (pos 75) (negsuc 24)
+  pub differenceA : raster 3 3 (difference pieceA (pixels 3 pictureA) 0) ≡ centred (pos 75) (negsuc 24)
   pub acceptedA : coding pieceA pictureA lent lent .answer ≡ 0
   pub indicesA : coding pieceA pictureA lent lent .levels ≡ levelsA
   pub unclampedA : raster 3 3 (rebuilt pieceA (readLevels pieceA levelsA) 0) ≡ centred (pos 94) (negsuc 5)

@@ -4,14 +4,14 @@ use Prim.Native.Nat.{ℕ, _+_, _-_, _*_, _≤_, _<_}
 use native.Mathlib.Omega.{arith}
 use borrow.Author.Needs.{needs}
 use Rattle.pyramid.specs.Definitions.Edge.{reflect}
+use Rattle.pyramid.proofs.Edge.{reflect-most}
 use Rattle.pyramid.proofs.Buffers.{row-inside, level-small}
 use Rattle.pyramid.proofs.averaging.row_start.Statement.{statement}
 use Rattle.pyramid.proofs.averaging.row_start.Tie as tie
 
 -- the row is below the number of rows
 below : (rows p : ℕ) → 3 ≤ rows → p ≤ rows + 3 → reflect (rows - 1) p < rows
-unfolding reflect
-below rows p h k = omega arith
+below rows p h k = omega (arith, reflect-most (rows - 1) p (omega arith) (omega arith))
 
 inside : (c : tie.After-reflected) → c .reflected .result * c .before .args .columns + c .before .args .columns ≤ c .before .args .rows * c .before .args .columns
 inside c =

@@ -1,7 +1,7 @@
 -- `pyramid::taps::reflected` meets its contract. Assumes nothing.
 use native.Mathlib.Omega.{arith}
 use borrow.Author.Needs.{needs}
-use Rattle.pyramid.specs.Definitions.Edge.{reflect}
+use Rattle.pyramid.proofs.Edge.{reflect-inside, reflect-before, reflect-past}
 use Rattle.pyramid.proofs.taps.reflected.Statement.{statement}
 use Rattle.pyramid.proofs.taps.reflected.Tie as tie
 
@@ -9,8 +9,7 @@ sub-result : tie.Need-sub-result
 sub-result c = search needs
 
 returns : tie.Need-returns
-unfolding reflect
-returns c = omega arith
+returns c = omega (arith, reflect-before (c .before .args .z) (c .before .args .p) (omega arith) (omega arith))
 
 mul-result : tie.Need-mul-result
 mul-result c = search needs
@@ -22,12 +21,10 @@ sub-result-2 : tie.Need-sub-result-2
 sub-result-2 c = search needs
 
 returns-2 : tie.Need-returns-2
-unfolding reflect
-returns-2 c = omega arith
+returns-2 c = omega (arith, reflect-past (c .before .before .args .z) (c .before .before .args .p) (omega arith) (omega arith))
 
 returns-3 : tie.Need-returns-3
-unfolding reflect
-returns-3 c = omega arith
+returns-3 c = omega (arith, reflect-inside (c .before .before .args .z) (c .before .before .args .p) (omega arith) (omega arith))
 
 pub reflected-spec : {M : Type 1} → statement M
 reflected-spec =
