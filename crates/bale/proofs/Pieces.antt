@@ -25,6 +25,7 @@ use Rattle.bale.specs.Definitions.Readings.{readingBytes}
 use Rattle.bale.specs.Definitions.Sections.{numbersSection}
 use Rattle.bale.specs.Definitions.Files.{shapeSection, binsFrom, binsSection, readingsSection, levelSection, levelSections, fileOf, fileSize}
 use Rattle.bale.specs.Definitions.Reader.{binsPlace, readingsPlace, levelsPlace, levelsFrom}
+use Rattle.bale.proofs.WordLaws.{word-bits}
 use Rattle.bale.proofs.WordLists.{length-words, words-append, length-wordsAt, getD-wordsAt}
 use Rattle.bale.proofs.LevelTrips.{length-level, length-indices}
 use Rattle.bale.proofs.FileLengths.{length-shape, length-bins, length-readings, length-file, length-binsFrom}
@@ -173,8 +174,7 @@ file-next s note levels l long room p q r t =
 
 -- the index of a word is kept by 16 bits
 pub index-kept : {m : ℤ} {n w : ℕ} → n < 65536 → m ≡ wordIndex n → n ≡ w → short m ≡ wordIndex w
-unfolding wordIndex
-index-kept {m} {n} h p e = ap short p ∙ short-is (sfits-toZ {w = w16} {n = n} (record { fits = h })) ∙ ap (toZ w16) e
+index-kept {m} {n} h p e = ap short (p ∙ word-bits n h) ∙ short-is (sfits-toZ {w = w16} {n = n} (record { fits = h })) ∙ sym (word-bits n h) ∙ ap wordIndex e
 
 pub indices-table : (bytes : List ℕ) (at n : ℕ) → tabulate n (λ k. wordIndex (u16At bytes (at + 2 * k))) ≡ indicesAt bytes at n
 indices-table bytes at n =

@@ -13,9 +13,9 @@ use Rattle.bale.specs.declared.Reading.{Reading}
 use Rattle.bale.specs.declared.Note.{Note}
 use Rattle.bale.specs.declared.Probe.{Probe}
 use Rattle.bale.specs.Definitions.Words.{le16, le32, u16At, u32At}
-use Rattle.bale.specs.Definitions.Readings.{readingOk, noteOk, kindOf, numberOf, readingBytes}
+use Rattle.bale.specs.Definitions.Readings.{codeOf, readingOk, noteOk, readingBytes}
 use Rattle.bale.specs.Definitions.Files.{readingsSection}
-use Rattle.bale.specs.Definitions.Reader.{readingsPlace, probeAt, noteIn, readingsSectionRefusal}
+use Rattle.bale.specs.Definitions.Reader.{readingsPlace, drierPlace, pressPlace, probeAt, noteIn, readingsSectionRefusal}
 use Rattle.bale.specs.Theorems.RoundTrips.{HeldReading}
 use Rattle.bale.proofs.Stands.{Stands, stands-front, stands-back, stands-join}
 use Rattle.bale.proofs.WordLaws.{digits32, bytes32}
@@ -34,12 +34,12 @@ module _ {bytes : List ℕ} {at : ℕ} where
   unfolding probeAt u32At le32
   probe-read r held ok s =
       let next : (i j : ℕ) → at + 1 + i ≡ at + j → getD bytes (at + 1 + i) 0 ≡ getD bytes (at + j) 0 = λ i j e. ap (λ (k : ℕ). getD bytes k 0) e in
-      let kind : getD bytes at 0 ≡ kindOf r = ap (λ (k : ℕ). getD bytes k 0) (sym (add-zero at)) ∙ s .each 0 (omega arith) in
+      let kind : getD bytes at 0 ≡ codeOf r .kind = ap (λ (k : ℕ). getD bytes k 0) (sym (add-zero at)) ∙ s .each 0 (omega arith) in
       let a = s .each 1 (omega arith) in
       let b = next 1 2 (omega arith) ∙ s .each 2 (omega arith) in
       let c = next 2 3 (omega arith) ∙ s .each 3 (omega arith) in
       let d = next 3 4 (omega arith) ∙ s .each 4 (omega arith) in
-      rw (kind, a, b, c, d, digits32 (numberOf r) (number-small r held)) (decode-code r held ok)
+      rw (kind, a, b, c, d, digits32 (codeOf r .number) (number-small r held ok)) (decode-code r held ok)
 
   five : Bytes bytes → at + 5 ≤ length bytes → Stands (getD bytes at 0 ∷ le32 (u32At bytes (at + 1))) bytes at
   unfolding u32At
@@ -76,9 +76,7 @@ module _ (bytes : List ℕ) (depth : ℕ) where
       let press = readingBytes (note .«at_press») in
       let two = stands-back (le16 2) (drier ++ press) s in
       let a = probe-read (note .«before_drier») held-drier drier-ok (stands-front drier press two) in
-      let place : readingsPlace depth + 2 + 5 ≡ readingsPlace depth + 7 = omega arith in
-      let second : Stands press bytes (readingsPlace depth + 7) = subst (λ (p : ℕ). Stands press bytes p) place (stands-back drier press two) in
-      let b = probe-read (note .«at_press») held-press press-ok second in
+      let b = probe-read (note .«at_press») held-press press-ok (stands-back drier press two) in
       let counted : u16At bytes (readingsPlace depth) ≡ 2 = word-read (omega arith) (stands-front (le16 2) (drier ++ press) s) in
       let w : Section bytes (readingsPlace depth) 2 5 = record { present = omega (arith, s .room); counted = counted } in
       let refusal : Probe → ℕ = λ p. p .refusal in
@@ -95,13 +93,11 @@ module _ (bytes : List ℕ) (depth : ℕ) where
       let room : readingsPlace depth + 2 + 10 ≤ length bytes = w .present in
       let (drier-ok, a) = probe-stands all (omega arith) drier in
       let (press-ok, b) = probe-stands all (omega arith) press in
-      let place : readingsPlace depth + 7 ≡ readingsPlace depth + 2 + 5 = omega arith in
-      let one = readingBytes (probeAt bytes (readingsPlace depth + 2) .reading) in
-      let two = readingBytes (probeAt bytes (readingsPlace depth + 7) .reading) in
-      let after = subst (λ (p : ℕ). Stands two bytes p) place b in
+      let one = readingBytes (probeAt bytes (drierPlace depth) .reading) in
+      let two = readingBytes (probeAt bytes (pressPlace depth) .reading) in
       let count : Stands (le16 2) bytes (readingsPlace depth) =
       subst (λ (k : ℕ). Stands (le16 k) bytes (readingsPlace depth)) (w .counted) (word-stands all (omega arith))
       in (
-        both-of (readingOk (probeAt bytes (readingsPlace depth + 2) .reading)) (readingOk (probeAt bytes (readingsPlace depth + 7) .reading)) drier-ok press-ok,
-        stands-join (le16 2) (one ++ two) count (stands-join one two a after),
+        both-of (readingOk (probeAt bytes (drierPlace depth) .reading)) (readingOk (probeAt bytes (pressPlace depth) .reading)) drier-ok press-ok,
+        stands-join (le16 2) (one ++ two) count (stands-join one two a b),
       )

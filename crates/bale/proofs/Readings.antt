@@ -17,7 +17,7 @@ use Rattle.bale.specs.declared.Reading.the-variants.{NotFitted, Percenta
 use Rattle.bale.specs.declared.Note.{Note}
 use Rattle.bale.specs.declared.Code.{Code}
 use Rattle.bale.specs.declared.Probe.{Probe}
-use Rattle.bale.specs.Definitions.Readings.{percentageOk, faultOk, readingOk, noteOk, kindOf, numberOf, codeOf, readingOf, codedOk, decode}
+use Rattle.bale.specs.Definitions.Readings.{percentageOk, faultOk, codeWhere, codeOf, readingOk, noteOk, probeWhere, decode}
 use Rattle.bale.specs.Theorems.RoundTrips.{HeldReading}
 
 abbrev hundred : Float
@@ -88,163 +88,165 @@ module _ (n : ℕ) where
   unfolding faultOk
   fault-high h = rw (lt-leb n 255 h) (and-false (leb 1 n))
 
--- ---- the code of a reading
+-- ---- a code or a reading where its rule holds
 
 abbrev noCode : Code
 noCode = record { refusal = 4; kind = 0; number = 0 }
 
-code-yes : (r : Reading) → readingOk r ≡ true → record { refusal = 0; kind = kindOf r; number = numberOf r } ≡ codeOf r
-unfolding codeOf
-code-yes r e = rw (unless-passes 4 e, leaves-new 0 (kindOf r) 0 refl, leaves-new 0 (numberOf r) 0 refl)
+abbrev noProbe : Probe
+noProbe = record { refusal = 4; reading = NotFitted }
 
-code-no : (r : Reading) → readingOk r ≡ false → noCode ≡ codeOf r
-unfolding codeOf
-code-no r e = rw (unless-fails 4 e, leaves-kept 4 (kindOf r) 0 (λ z. omega (arith, z)), leaves-kept 4 (numberOf r) 0 (λ z. omega (arith, z)))
+module _ (kind number : ℕ) where
+  where-coded : {ok : Bool} → ok ≡ true → record { refusal = 0; kind = kind; number = number } ≡ codeWhere ok kind number
+  unfolding codeWhere
+  where-coded e = rw (unless-passes 4 e, leaves-new 0 kind 0 refl, leaves-new 0 number 0 refl)
 
-pub code-lawful : (r : Reading) → T (readingOk r) → codeOf r ≡ record { refusal = 0; kind = kindOf r; number = numberOf r }
-code-lawful r t = sym (code-yes r (is-true (readingOk r) t))
+  where-not-coded : {ok : Bool} → ok ≡ false → noCode ≡ codeWhere ok kind number
+  unfolding codeWhere
+  where-not-coded e = rw (unless-fails 4 e, leaves-kept 4 kind 0 (λ z. omega (arith, z)), leaves-kept 4 number 0 (λ z. omega (arith, z)))
+
+  coded-holds : (ok : Bool) → T (eqb (codeWhere ok kind number .refusal) 0) → ok ≡ true
+  coded-holds true t = refl
+  coded-holds false t = absurd (rw (← where-not-coded {ok = false} refl) at t)
+
+module _ (r : Reading) where
+  where-probed : {ok : Bool} → ok ≡ true → record { refusal = 0; reading = r } ≡ probeWhere ok r
+  unfolding probeWhere
+  where-probed e = rw (unless-passes 4 e, leaves-new 0 r NotFitted refl)
+
+  where-not-probed : {ok : Bool} → ok ≡ false → noProbe ≡ probeWhere ok r
+  unfolding probeWhere
+  where-not-probed e = rw (unless-fails 4 e, leaves-kept 4 r NotFitted (λ z. omega (arith, z)))
+
+  probed-holds : (ok : Bool) → probeWhere ok r .refusal ≡ 0 → ok ≡ true
+  probed-holds true e = refl
+  probed-holds false e = let f = ap (λ (x : Probe). x .refusal) (where-not-probed {ok = false} refl) ∙ e in absurd (omega arith)
+
+-- ---- the code of a reading
 
 pub code-none : {r : Reading} → r ≡ NotFitted → record { refusal = 0; kind = 0; number = 0 } ≡ codeOf r
-code-none p = code-yes NotFitted refl ∙ sym (ap codeOf p)
+unfolding codeOf
+code-none p = where-coded 0 0 refl ∙ sym (ap codeOf p)
 
 module _ {r : Reading} {x : Float} (p : r ≡ Percentage x) where
   pub code-percentage : toBits binary32 x < 0x8000_0000 → le x hundred ≡ true → record { refusal = 0; kind = 1; number = toBits binary32 x } ≡ codeOf r
-  code-percentage h e = code-yes (Percentage x) (percentage-yes _ x h e) ∙ sym (ap codeOf p)
+  unfolding codeOf
+  code-percentage h e = where-coded 1 _ (percentage-yes _ x h e) ∙ sym (ap codeOf p)
 
   pub code-signed : 0x8000_0000 ≤ toBits binary32 x → noCode ≡ codeOf r
-  code-signed h = code-no (Percentage x) (percentage-signed _ x h) ∙ sym (ap codeOf p)
+  unfolding codeOf
+  code-signed h = where-not-coded 1 _ (percentage-signed _ x h) ∙ sym (ap codeOf p)
 
   pub code-above : le x hundred ≡ false → noCode ≡ codeOf r
-  code-above e = code-no (Percentage x) (percentage-above _ x e) ∙ sym (ap codeOf p)
+  unfolding codeOf
+  code-above e = where-not-coded 1 _ (percentage-above _ x e) ∙ sym (ap codeOf p)
 
 module _ {r : Reading} {n : ℕ} (p : r ≡ Fault n) where
   pub code-fault : 1 ≤ n → n ≤ 255 → record { refusal = 0; kind = 2; number = n } ≡ codeOf r
-  code-fault h l = code-yes (Fault n) (fault-yes n h l) ∙ sym (ap codeOf p)
+  unfolding codeOf
+  code-fault h l = where-coded 2 n (fault-yes n h l) ∙ sym (ap codeOf p)
 
   pub code-low : n < 1 → noCode ≡ codeOf r
-  code-low h = code-no (Fault n) (fault-low n h) ∙ sym (ap codeOf p)
+  unfolding codeOf
+  code-low h = where-not-coded 2 n (fault-low n h) ∙ sym (ap codeOf p)
 
   pub code-high : 255 < n → noCode ≡ codeOf r
-  code-high h = code-no (Fault n) (fault-high n h) ∙ sym (ap codeOf p)
-
--- a reading is lawful where its code is not refused
-code-tells : {code : Code} (r : Reading) → code ≡ codeOf r → eqb (code .refusal) 0 ≡ readingOk r
-code-tells {code} r e = pick (readingOk r) refl
-  where
-    pick : (b : Bool) → readingOk r ≡ b → eqb (code .refusal) 0 ≡ readingOk r
-    pick true p = rw (e ∙ sym (code-yes r p), p)
-    pick false p = rw (e ∙ sym (code-no r p), p)
+  unfolding codeOf
+  code-high h = where-not-coded 2 n (fault-high n h) ∙ sym (ap codeOf p)
 
 module _ (note : Note) {first : Code} (f : first ≡ codeOf (note .«before_drier»)) where
   pub note-first : (first .refusal ≡ 0 → ⊥) → false ≡ noteOk note
   unfolding noteOk
-  note-first h = rw (sym (code-tells (note .«before_drier») f) ∙ ne-eqb _ _ h)
+  note-first h = rw (← f, ne-eqb _ _ h)
 
   pub note-second : {second : Code} → first .refusal ≡ 0 → second ≡ codeOf (note .«at_press») → eqb (second .refusal) 0 ≡ noteOk note
   unfolding noteOk
-  note-second h e =
-      let p : readingOk (note .«before_drier») ≡ true = sym (code-tells (note .«before_drier») f) ∙ eq-eqb _ _ h in
-      rw p (code-tells (note .«at_press») e)
+  note-second h e = rw (← f, eq-eqb _ _ h, e)
 
 -- ---- the reading of a kind and a number
 
-abbrev noProbe : Probe
-noProbe = record { refusal = 4; reading = NotFitted }
-
-module _ (k n : ℕ) where
-  decode-yes : codedOk k n ≡ true → record { refusal = 0; reading = readingOf k n } ≡ decode k n
-  unfolding decode
-  decode-yes e = rw (unless-passes 4 e, leaves-new 0 (readingOf k n) NotFitted refl)
-
-  decode-no : codedOk k n ≡ false → noProbe ≡ decode k n
-  unfolding decode
-  decode-no e = rw (unless-fails 4 e, leaves-kept 4 (readingOf k n) NotFitted (λ z. omega (arith, z)))
-
-  pub decode-other : (k ≡ 0 → ⊥) → (k ≡ 1 → ⊥) → (k ≡ 2 → ⊥) → noProbe ≡ decode k n
-  unfolding codedOk
-  decode-other not0 not1 not2 = decode-no (other k n not0 not1 not2)
-    where
-      other : (k n : ℕ) → (k ≡ 0 → ⊥) → (k ≡ 1 → ⊥) → (k ≡ 2 → ⊥) → codedOk k n ≡ false
-      other zero n a b c = absurd (a refl)
-      other (suc zero) n a b c = absurd (b refl)
-      other (suc (suc zero)) n a b c = absurd (c refl)
-      other (suc (suc (suc k))) n a b c = refl
+pub decode-other : (k n : ℕ) → (k ≡ 0 → ⊥) → (k ≡ 1 → ⊥) → (k ≡ 2 → ⊥) → noProbe ≡ decode k n
+unfolding decode
+decode-other zero n a b c = absurd (a refl)
+decode-other (suc zero) n a b c = absurd (b refl)
+decode-other (suc (suc zero)) n a b c = absurd (c refl)
+decode-other (suc (suc (suc k))) n a b c = where-not-probed NotFitted refl
 
 module _ {k : ℕ} (n : ℕ) (p : k ≡ 0) where
   pub decode-none : n ≡ 0 → record { refusal = 0; reading = NotFitted } ≡ decode k n
-  unfolding codedOk readingOf
-  decode-none h = decode-yes 0 n (eq-eqb n 0 h) ∙ ap (λ (x : ℕ). decode x n) (sym p)
+  unfolding decode
+  decode-none h = where-probed NotFitted (eq-eqb n 0 h) ∙ ap (λ (x : ℕ). decode x n) (sym p)
 
   pub decode-some : (n ≡ 0 → ⊥) → noProbe ≡ decode k n
-  unfolding codedOk
-  decode-some h = decode-no 0 n (ne-eqb n 0 h) ∙ ap (λ (x : ℕ). decode x n) (sym p)
+  unfolding decode
+  decode-some h = where-not-probed NotFitted (ne-eqb n 0 h) ∙ ap (λ (x : ℕ). decode x n) (sym p)
 
 module _ {k : ℕ} (n : ℕ) (p : k ≡ 1) where
   pub decode-percentage : n ≤ 0x7F80_0000 → le (ofBits binary32 n) hundred ≡ true
       → record { refusal = 0; reading = Percentage (ofBits binary32 n) } ≡ decode k n
-  unfolding codedOk readingOf
-  decode-percentage h e = decode-yes 1 n (percentage-yes n _ (omega arith) e) ∙ ap (λ (x : ℕ). decode x n) (sym p)
+  unfolding decode
+  decode-percentage h e = where-probed _ (percentage-yes n _ (omega arith) e) ∙ ap (λ (x : ℕ). decode x n) (sym p)
 
   pub decode-above : le (ofBits binary32 n) hundred ≡ false → noProbe ≡ decode k n
-  unfolding codedOk
-  decode-above e = decode-no 1 n (percentage-above n _ e) ∙ ap (λ (x : ℕ). decode x n) (sym p)
+  unfolding decode
+  decode-above e = where-not-probed _ (percentage-above n _ e) ∙ ap (λ (x : ℕ). decode x n) (sym p)
 
   pub decode-beyond : 0x7F80_0000 < n → noProbe ≡ decode k n
-  unfolding codedOk
-  decode-beyond h = decode-no 1 n (percentage-beyond n h) ∙ ap (λ (x : ℕ). decode x n) (sym p)
+  unfolding decode
+  decode-beyond h = where-not-probed _ (percentage-beyond n h) ∙ ap (λ (x : ℕ). decode x n) (sym p)
 
 module _ {k : ℕ} (n : ℕ) (p : k ≡ 2) where
   pub decode-fault : 1 ≤ n → n ≤ 255 → record { refusal = 0; reading = Fault n } ≡ decode k n
-  unfolding codedOk readingOf
-  decode-fault h l = decode-yes 2 n (fault-yes n h l) ∙ ap (λ (x : ℕ). decode x n) (sym p)
+  unfolding decode
+  decode-fault h l = where-probed _ (fault-yes n h l) ∙ ap (λ (x : ℕ). decode x n) (sym p)
 
   pub decode-low : n < 1 → noProbe ≡ decode k n
-  unfolding codedOk
-  decode-low h = decode-no 2 n (fault-low n h) ∙ ap (λ (x : ℕ). decode x n) (sym p)
+  unfolding decode
+  decode-low h = where-not-probed _ (fault-low n h) ∙ ap (λ (x : ℕ). decode x n) (sym p)
 
   pub decode-high : 255 < n → noProbe ≡ decode k n
-  unfolding codedOk
-  decode-high h = decode-no 2 n (fault-high n h) ∙ ap (λ (x : ℕ). decode x n) (sym p)
+  unfolding decode
+  decode-high h = where-not-probed _ (fault-high n h) ∙ ap (λ (x : ℕ). decode x n) (sym p)
 
 -- ---- a reading that is written and read back is the same reading, bit for bit; and one that is read is written as it was
 
-pub number-small : (r : Reading) → HeldReading r → numberOf r < 2 * 0x8000_0000
-number-small NotFitted h = omega arith
-number-small (Percentage x) h = toBits-lt binary32 x h
-number-small (Fault code) h = h
+percentage-coded : (x : Float) → T (readingOk (Percentage x)) → percentageOk (toBits binary32 x) x ≡ true
+unfolding codeOf
+percentage-coded x t = coded-holds 1 _ _ t
 
-coded-of : (r : Reading) → HeldReading r → readingOk r ≡ true → codedOk (kindOf r) (numberOf r) ≡ true
-unfolding codedOk
-coded-of NotFitted h e = refl
-coded-of (Percentage x) h e = rw (ofBits-toBits binary32 x h) e
-coded-of (Fault code) h e = e
+fault-coded : (n : ℕ) → T (readingOk (Fault n)) → faultOk n ≡ true
+unfolding codeOf
+fault-coded n t = coded-holds 2 n _ t
 
-reading-back : (r : Reading) → HeldReading r → readingOf (kindOf r) (numberOf r) ≡ r
-unfolding readingOf
-reading-back NotFitted h = refl
-reading-back (Percentage x) h = ap Percentage (ofBits-toBits binary32 x h)
-reading-back (Fault code) h = refl
+pub number-small : (r : Reading) → HeldReading r → T (readingOk r) → codeOf r .number < 2 * 0x8000_0000
+unfolding codeOf
+number-small NotFitted h t = rw (← where-coded 0 0 {ok = true} refl) (omega arith)
+number-small (Percentage x) h t = rw (← where-coded 1 (toBits binary32 x) (percentage-coded x t)) (toBits-lt binary32 x h)
+number-small (Fault n) h t = rw (← where-coded 2 n (fault-coded n t)) h
 
-pub decode-code : (r : Reading) → HeldReading r → T (readingOk r) → decode (kindOf r) (numberOf r) ≡ record { refusal = 0; reading = r }
-decode-code r h t =
-    sym (decode-yes (kindOf r) (numberOf r) (coded-of r h (is-true (readingOk r) t))) ∙ ap (λ (x : Reading). record { refusal = 0; reading = x }) (reading-back r h)
+pub decode-code : (r : Reading) → HeldReading r → T (readingOk r) → decode (codeOf r .kind) (codeOf r .number) ≡ record { refusal = 0; reading = r }
+unfolding codeOf decode
+decode-code NotFitted h t = rw (← where-coded 0 0 {ok = true} refl) (sym (where-probed NotFitted refl))
+decode-code (Percentage x) h t =
+    let e = percentage-coded x t in
+    rw (← where-coded 1 (toBits binary32 x) e, ofBits-toBits binary32 x h) (sym (where-probed (Percentage x) e))
+decode-code (Fault n) h t = let e = fault-coded n t in rw (← where-coded 2 n e) (sym (where-probed (Fault n) e))
 
 abbrev Again : ℕ → ℕ → Reading → Type 0
-Again k n r = T (readingOk r) × (kindOf r ≡ k) × (numberOf r ≡ n)
+Again k n r = T (readingOk r) × (codeOf r .kind ≡ k) × (codeOf r .number ≡ n)
 
-coded-again : (k n : ℕ) → n < 2 * 0x8000_0000 → codedOk k n ≡ true → Again k n (readingOf k n)
-unfolding codedOk readingOf
-coded-again zero n h e = (tt, refl, sym (eqb-true n 0 e))
-coded-again (suc zero) n h e =
-    let p = toBits-ofBits binary32 n h (le-no-nan (ofBits binary32 n) hundred (percentage-most n (ofBits binary32 n) e)) in
-    (rw p (subst T (sym e) tt), refl, p)
-coded-again (suc (suc zero)) n h e = (subst T (sym e) tt, refl, refl)
-coded-again (suc (suc (suc k))) n h e = absurd (subst T (sym e) tt)
+again : (r : Reading) {k n : ℕ} → record { refusal = 0; kind = k; number = n } ≡ codeOf r → Again k n r
+again r e = rw (← e) (tt, refl, refl)
 
-pub code-decode : (k n : ℕ) → n < 2 * 0x8000_0000 → decode k n .refusal ≡ 0
-    → T (readingOk (decode k n .reading)) × (kindOf (decode k n .reading) ≡ k) × (numberOf (decode k n .reading) ≡ n)
-code-decode k n h e = pick (codedOk k n) refl
-  where
-    pick : (b : Bool) → codedOk k n ≡ b → Again k n (decode k n .reading)
-    pick true p = subst (λ (x : Probe). Again k n (x .reading)) (decode-yes k n p) (coded-again k n h p)
-    pick false p = let f = ap (λ (x : Probe). x .refusal) (decode-no k n p) ∙ e in absurd (omega arith)
+pub code-decode : (k n : ℕ) → n < 2 * 0x8000_0000 → decode k n .refusal ≡ 0 → Again k n (decode k n .reading)
+unfolding decode codeOf
+code-decode zero n h e =
+    let p = probed-holds NotFitted _ e in
+    rw (← where-probed NotFitted p, eqb-true n 0 p) (again NotFitted (where-coded 0 0 refl))
+code-decode (suc zero) n h e =
+    let x = ofBits binary32 n in
+    let p = probed-holds (Percentage x) _ e in
+    let bits = toBits-ofBits binary32 n h (le-no-nan x hundred (percentage-most n x p)) in
+    rw (← where-probed (Percentage x) p) (again (Percentage x) (rw bits (where-coded 1 n p)))
+code-decode (suc (suc zero)) n h e = let p = probed-holds (Fault n) _ e in rw (← where-probed (Fault n) p) (again (Fault n) (where-coded 2 n p))
+code-decode (suc (suc (suc k))) n h e = absurd (false≢true (probed-holds NotFitted false e))

@@ -18,7 +18,7 @@ use Rattle.bale.specs.declared.Note.{Note}
 use Rattle.bale.specs.Definitions.Words.{u16At}
 use Rattle.bale.specs.Definitions.Files.{shapeSection, binsSection, readingsSection, levelSections, fileOf, fileSize}
 use Rattle.bale.specs.Definitions.Reader.{binsPlace, readingsPlace, levelsPlace, settingsIn, noteIn, levelsFrom, levelsIn, shapeSectionRefusal, binsSectionRefusal, readingsSectionRefusal, levelSectionsRefusal, bodyRefusal}
-use Rattle.bale.specs.Definitions.Calls.{writeRefusal, readRefusal, reading}
+use Rattle.bale.specs.Definitions.Calls.{writeRefusal, readRefusal, readFile}
 use Rattle.bale.specs.Theorems.RoundTrips.{Held, WrittenThenRead, ReadThenWritten}
 use Rattle.bale.proofs.Stands.{Stands, stands-all, stands-whole, stands-front, stands-back, stands-join}
 use Rattle.bale.proofs.Sections.{eqb-of, Section, section-accepted, section-whole}
@@ -137,7 +137,7 @@ module _ (s : Settings) (note : Note) (levels : List ℤ) (room : ℕ) (held : H
         (first-pass _ shape-accepted
         (first-pass _ (unless-holds (eqb (length lent) (total s)) 6 (eqb-of e)) (first-pass _ body-accepted first-nil)))
 
-    is-read : reading file lent ≡ record { answer = record { refusal = 0; settings = s; note = note }; levels = levels }
+    is-read : readFile file lent ≡ record { answer = record { refusal = 0; settings = s; note = note }; levels = levels }
     is-read = reading-is file lent accepted ∙ rw (depth-is s file (settings .is), settings .is, noted .1, leveled .1)
 
 pub written-then-read : WrittenThenRead

@@ -17,8 +17,8 @@ use Rattle.bale.specs.Definitions.Sections.{sectionRefusal}
 use Rattle.bale.proofs.WordLists.{getD-wordsAt}
 use Rattle.bale.proofs.LevelTrips.{length-indices}
 
-pub items-small : (count size : ℕ) → count ≤ 65535 → size ≤ 5 → count * size ≤ 327675
-items-small count size c s = mul-le-mul c s
+pub items-small : (count size : ℕ) → count ≤ 65535 → size ≤ 5 → size * count ≤ 327675
+items-small count size c s = mul-le-mul s c
 
 -- ---- a section: its count is absent, or wrong, or its items are not all there
 
@@ -32,7 +32,7 @@ module _ (bytes : List ℕ) (at count size : ℕ) where
     unfolding sectionRefusal
     count-wrong wrong = answers-fails _ (ne-eqb _ _ wrong) ∙ answers-passes 9 _ (le-leb _ _ h)
 
-    pub items-absent : u16At bytes at ≡ count → length bytes < at + 2 + count * size → 9 ≡ sectionRefusal bytes at count size
+    pub items-absent : u16At bytes at ≡ count → length bytes < at + 2 + size * count → 9 ≡ sectionRefusal bytes at count size
     unfolding sectionRefusal
     items-absent counted short = answers-fails _ (lt-leb _ _ short) ∙ answers-passes 10 _ (eq-eqb _ _ counted) ∙ answers-passes 9 _ (le-leb _ _ h)
 

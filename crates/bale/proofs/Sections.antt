@@ -17,7 +17,7 @@ eqb-of {m} {n} e = subst (λ (k : ℕ). T (eqb m k)) e (eqb-refl m)
 
 -- a section of so many items of so many bytes is whole at a place
 pub record Section (bytes : List ℕ) (at count size : ℕ) : Type 0 where
-  pub present : at + 2 + count * size ≤ length bytes
+  pub present : at + 2 + size * count ≤ length bytes
   pub counted : u16At bytes at ≡ count
 
 module _ {bytes : List ℕ} {at count size : ℕ} where
@@ -26,7 +26,7 @@ module _ {bytes : List ℕ} {at count size : ℕ} where
   section-accepted w =
       first-pass _ (unless-holds (leb (at + 2) (length bytes)) 9 (le→leb (at + 2) (length bytes) (omega (arith, w .present))))
       (first-pass _ (unless-holds (eqb (u16At bytes at) count) 10 (eqb-of (w .counted)))
-      (first-pass _ (unless-holds (leb (at + 2 + count * size) (length bytes)) 9 (le→leb _ _ (w .present))) first-nil))
+      (first-pass _ (unless-holds (leb (at + 2 + size * count) (length bytes)) 9 (le→leb _ _ (w .present))) first-nil))
 
   pub section-whole : sectionRefusal bytes at count size ≡ 0 → Section bytes at count size
   unfolding sectionRefusal
@@ -34,7 +34,7 @@ module _ {bytes : List ℕ} {at count size : ℕ} where
       let (_, e₂) = first-none _ _ e in
       let (counted, e₃) = first-none _ _ e₂ in
       record {
-        present = leb→le _ _ (unless-none (leb (at + 2 + count * size) (length bytes)) 8 (first-none _ _ e₃ .0));
+        present = leb→le _ _ (unless-none (leb (at + 2 + size * count) (length bytes)) 8 (first-none _ _ e₃ .0));
         counted = eqb→eq _ _ (unless-none (eqb (u16At bytes at) count) 9 counted);
       }
 

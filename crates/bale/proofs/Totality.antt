@@ -4,11 +4,13 @@ use mathlib.Core.Bool.{Bool, true, false, cond}
 use mathlib.Core.List.{List}
 use Prim.Native.Nat.{ℕ, zero, suc, _+_, _*_}
 use lib.Dec.{T, eqb}
+use lib.ListN.{getD}
 use Rattle.pyramid.specs.declared.Settings.{Settings}
 use Rattle.pyramid.specs.Definitions.Sizes.{nodesAt, total}
 use Rattle.pyramid.specs.Definitions.Refusals.{shapeRefusal}
 use Rattle.pyramid.proofs.Refusals.{first-over, unless-holds, unless-elim, first-elim, last-elim, shape-elim}
-use Rattle.bale.specs.Definitions.Readings.{decode}
+use Rattle.bale.specs.Definitions.Words.{u32At}
+use Rattle.bale.specs.Definitions.Readings.{probeWhere, decode}
 use Rattle.bale.specs.Definitions.Sections.{sectionRefusal}
 use Rattle.bale.specs.Definitions.Reader.{settingsIn, probeAt, shapeSectionRefusal, binsSectionRefusal, readingsSectionRefusal, levelSectionRefusal, levelSectionsRefusal, bodyRefusal}
 use Rattle.bale.specs.Definitions.Calls.{readRefusal, checkRefusal}
@@ -27,9 +29,16 @@ module _ (bytes : List ℕ) where
   unfolding oneOf
   shape s = shape-elim P tt s tt tt
 
+  decoded : (kind n : ℕ) → P (decode kind n .refusal)
+  unfolding decode probeWhere oneOf
+  decoded zero n = unless-elim P tt _ 4 tt
+  decoded (suc zero) n = unless-elim P tt _ 4 tt
+  decoded (suc (suc zero)) n = unless-elim P tt _ 4 tt
+  decoded (suc (suc (suc kind))) n = unless-elim P tt _ 4 tt
+
   probe : (at : ℕ) → P (probeAt bytes at .refusal)
-  unfolding probeAt decode oneOf
-  probe at = unless-elim P tt _ 4 tt
+  unfolding probeAt
+  probe at = decoded (getD bytes at 0) (u32At bytes (at + 1))
 
   shape-section : P (shapeSectionRefusal bytes)
   unfolding shapeSectionRefusal oneOf

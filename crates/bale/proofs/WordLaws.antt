@@ -1,19 +1,20 @@
 -- Laws of bytes, low byte first, and of indices in two's complement. Assumes nothing.
 use mathlib.Core.Path.{_≡_, refl, sym, ap, _∙_, subst}
-use mathlib.Core.Bool.{true, false}
+use mathlib.Core.Bool.{Bool, true, false, cond}
 use mathlib.Core.List.{List, [], _∷_, _++_}
-use Prim.Native.Nat.{ℕ, _+_, _-_, _*_, _/_, _%_, _≤_, _<_}
+use Prim.Native.Nat.{ℕ, suc, _+_, _-_, _*_, _/_, _%_, _≤_, _<_}
 use native.Mathlib.Nat.{add-zero, div-div-eq-div-mul, div-add-mod', mod-eq-of-lt}
 use native.Mathlib.Omega.{arith}
 use borrow.Author.Tests.{ltb-true}
-use lib.Dec.{T}
-use lib.IntN.{ℤ, pos, negsuc, natAbs}
+use lib.Dec.{T, ltb}
+use lib.IntN.{ℤ, pos, negsuc, natAbs, _-ℤ_}
 use lib.ListN.{length, set}
 use lib.Signed.{ltZ, nonNeg}
 use mir.Facts.{toZ-ofZ, ofZ-toZ, fits-ofZ, toZ-pos}
 use mir.Syntax.{w16}
-use mir.Val.{Fits, SFits, ofZ, toZ}
+use mir.Val.{Fits, SFits, ofZ, toZ, sel}
 use Rattle.mathematics.specs.Inner.Splices.{splice}
+use Rattle.mathematics.proofs.Integers.{ints}
 use Rattle.mathematics.proofs.Splices.{splice-nil, splice-set}
 use Rattle.bale.specs.Definitions.Words.{le16, le32, indexWord, wordIndex}
 
@@ -92,17 +93,31 @@ five-stores l at kind n h =
 
 -- ---- two's complement
 
+-- they are how the language holds a 16-bit signed number
+pub index-bits : (m : ℤ) → indexWord m ≡ ofZ w16 m
+unfolding indexWord
+index-bits (pos n) = refl
+index-bits (negsuc n) = omega arith
+
+below-65536 : (n : ℕ) → n < 65536 → pos n -ℤ pos 65536 ≡ negsuc (65536 - suc n)
+below-65536 n h = simp ints (omega arith)
+
+pub word-bits : (n : ℕ) → n < 65536 → wordIndex n ≡ toZ w16 n
+unfolding wordIndex
+word-bits n h = pick (ltb n 32768)
+  where
+    pick : (b : Bool) → cond b (pos n) (pos n -ℤ pos 65536) ≡ sel b (pos n) (negsuc (65536 - suc n))
+    pick true = refl
+    pick false = below-65536 n h
+
 pub word-back : (m : ℤ) → SFits w16 m → wordIndex (indexWord m) ≡ m
-unfolding indexWord wordIndex
-word-back m f = toZ-ofZ f
+word-back m f = rw (index-bits m, word-bits (ofZ w16 m) (fits-ofZ {w = w16} {z = m} f .fits)) (toZ-ofZ f)
 
 pub index-back : (n : ℕ) → n < 65536 → indexWord (wordIndex n) ≡ n
-unfolding indexWord wordIndex
-index-back n h = ofZ-toZ {w = w16} (record { fits = h })
+index-back n h = rw (word-bits n h, index-bits (toZ w16 n)) (ofZ-toZ {w = w16} (record { fits = h }))
 
 pub word-small : (m : ℤ) → SFits w16 m → indexWord m < 65536
-unfolding indexWord
-word-small m f = fits-ofZ {w = w16} {z = m} f .fits
+word-small m f = rw (index-bits m) (fits-ofZ {w = w16} {z = m} f .fits)
 
 -- the word of a negative index is 32768 or more, and of another the index itself
 pub record Negative (m : ℤ) : Type 0 where

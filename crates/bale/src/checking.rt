@@ -78,7 +78,7 @@ fn section_refusal(file: &[u8], at: usize, count: u16, size: usize) -> u16
     if words::u16_at(file, at) != count {
         return 10;
     }
-    if file.len() < at + 2 + count as usize * size {
+    if file.len() < at + 2 + size * count as usize {
         return 9;
     }
     0
@@ -111,16 +111,15 @@ fn bins_section_refusal(file: &[u8], s: Settings) -> u16
 fn readings_section_refusal(file: &[u8], depth: u16) -> u16
     ensures { λ r. ⌜ r ≡ readingsSectionRefusal (now (file .entry)) depth ⌝ }
 {
-    let at = places::readings(depth);
-    let refusal = section_refusal(file, at, 2, 5);
+    let refusal = section_refusal(file, places::readings(depth), 2, 5);
     if refusal != 0 {
         return refusal;
     }
-    let drier = finding::probe_at(file, at + 2);
+    let drier = finding::probe_at(file, places::drier(depth));
     if drier.refusal != 0 {
         return drier.refusal;
     }
-    let press = finding::probe_at(file, at + 7);
+    let press = finding::probe_at(file, places::press(depth));
     press.refusal
 }
 

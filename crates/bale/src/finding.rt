@@ -63,9 +63,8 @@ pub fn probe_at(file: &[u8], at: usize) -> Probe
 fn note_in(file: &[u8], depth: u16) -> Note
     ensures { λ r. ⌜ r ≡ noteIn (now (file .entry)) depth ⌝ }
 {
-    let at = places::readings(depth);
-    let first = probe_at(file, at + 2);
-    let second = probe_at(file, at + 7);
+    let first = probe_at(file, places::drier(depth));
+    let second = probe_at(file, places::press(depth));
     let drier = first.reading;
     let press = second.reading;
     Note {

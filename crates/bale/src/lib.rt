@@ -2,7 +2,7 @@
 use pyramid::Settings;
 ghost use mathlib.Core.Path.{_≡_};
 ghost use Rattle.bale.specs.Definitions.Readings.{codeOf, decode};
-ghost use Rattle.bale.specs.Definitions.Calls.{sizeAnswer, writing, checking, reading};
+ghost use Rattle.bale.specs.Definitions.Calls.{sizeAnswer, writeFile, checkFile, readFile};
 
 mod checking;
 mod filling;
@@ -74,8 +74,8 @@ pub fn file_size(s: Settings) -> FileSize
 
 // Writes a file and answers its size. Refused: 1, 2, 3, 4, 6, 8, 11.
 pub fn write_file(s: Settings, note: Note, levels: &[i16], file: &mut [u8]) -> FileSize
-    ensures { λ r. ⌜ r ≡ writing s note (now (levels .entry)) (now (file .entry)) .answer ⌝ }
-    ensures { λ _. ⌜ now (file .exit) ≡ writing s note (now (levels .entry)) (now (file .entry)) .file ⌝ }
+    ensures { λ r. ⌜ r ≡ writeFile s note (now (levels .entry)) (now (file .entry)) .answer ⌝ }
+    ensures { λ _. ⌜ now (file .exit) ≡ writeFile s note (now (levels .entry)) (now (file .entry)) .file ⌝ }
 {
     let refusal = checking::write_refusal(s, note, levels, file.len());
     if refusal != 0 {
@@ -90,8 +90,8 @@ pub fn write_file(s: Settings, note: Note, levels: &[i16], file: &mut [u8]) -> F
 
 // Reads a file: its settings and readings in the answer, its indices in the level buffer. Refused in file order: 9, 10, 1, 2, 6, 3, 4, 11, 12.
 pub fn read_file(file: &[u8], levels: &mut [i16]) -> Bale
-    ensures { λ r. ⌜ r ≡ reading (now (file .entry)) (now (levels .entry)) .answer ⌝ }
-    ensures { λ _. ⌜ now (levels .exit) ≡ reading (now (file .entry)) (now (levels .entry)) .levels ⌝ }
+    ensures { λ r. ⌜ r ≡ readFile (now (file .entry)) (now (levels .entry)) .answer ⌝ }
+    ensures { λ _. ⌜ now (levels .exit) ≡ readFile (now (file .entry)) (now (levels .entry)) .levels ⌝ }
 {
     let s = finding::settings_in(file);
     let refusal = checking::read_refusal(file, s, levels.len());
@@ -104,7 +104,7 @@ pub fn read_file(file: &[u8], levels: &mut [i16]) -> Bale
 
 // The same of a file whose indices nobody asks for: every number but 6.
 pub fn check_file(file: &[u8]) -> Bale
-    ensures { λ r. ⌜ r ≡ checking (now (file .entry)) ⌝ }
+    ensures { λ r. ⌜ r ≡ checkFile (now (file .entry)) ⌝ }
 {
     let s = finding::settings_in(file);
     let refusal = checking::check_refusal(file, s);

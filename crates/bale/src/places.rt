@@ -1,6 +1,6 @@
 // Where the sections of a file stand (document 01, "Bale file"): each starts with its count.
 ghost use mathlib.Core.Path.{_≡_};
-ghost use Rattle.bale.specs.Definitions.Reader.{readingsPlace, levelsPlace};
+ghost use Rattle.bale.specs.Definitions.Reader.{readingsPlace, drierPlace, pressPlace, levelsPlace};
 
 // The bins, after the four numbers of the shape.
 pub const BINS: usize = 10;
@@ -10,6 +10,20 @@ pub fn readings(depth: u16) -> usize
     ensures { λ r. ⌜ r ≡ readingsPlace depth ⌝ }
 {
     BINS + 2 + 2 * (depth as usize + 1)
+}
+
+// The reading before the drier, after the count.
+pub fn drier(depth: u16) -> usize
+    ensures { λ r. ⌜ r ≡ drierPlace depth ⌝ }
+{
+    readings(depth) + 2
+}
+
+// The reading at the press, after the one before the drier.
+pub fn press(depth: u16) -> usize
+    ensures { λ r. ⌜ r ≡ pressPlace depth ⌝ }
+{
+    drier(depth) + 5
 }
 
 // The levels, after the two readings.

@@ -14,7 +14,7 @@ use Rattle.bale.specs.declared.Probe.{Probe}
 use Rattle.bale.specs.declared.FileSize.{FileSize}
 use Rattle.bale.specs.Definitions.Readings.{decode}
 use Rattle.bale.specs.Definitions.Files.{fileSize}
-use Rattle.bale.specs.Definitions.Calls.{writeRefusal, writing}
+use Rattle.bale.specs.Definitions.Calls.{writeRefusal, writeFile}
 use Rattle.bale.proofs.Answers.{writing-refusal, writing-is, writing-refused}
 use Rattle.lepsarvu.specs.Definitions.Exports.{Coded, noteOf, codedRefusal, codedFile, codedSize}
 
@@ -44,7 +44,7 @@ module _ (s : Settings) (c : Coded) (levels : List ℤ) (file : List ℕ) where
       coded-stops refused old = (
         stops refused,
         (
-          rw (← stops refused) (sym (leaves-kept m (writing s (noteOf c) levels file .file) file refused)),
+          rw (← stops refused) (sym (leaves-kept m (writeFile s (noteOf c) levels file .file) file refused)),
           rw (← stops refused) (sym (leaves-kept m (fileSize s) old refused)),
         ),
       )
@@ -54,8 +54,8 @@ module _ (s : Settings) (c : Coded) (levels : List ℤ) (file : List ℕ) where
       coded-is z = first-later heads (writeRefusal s (noteOf c) levels (length file) ∷ []) (sym heads-are ∙ z) ∙ first-last _
 
       -- then the writer's answer and file
-      module _ (z : m ≡ 0) {note : Note} (n : note ≡ noteOf c) {answer : FileSize} {new : List ℕ} (a : answer ≡ writing s note levels file .answer)
-          (f : new ≡ writing s note levels file .file) where
+      module _ (z : m ≡ 0) {note : Note} (n : note ≡ noteOf c) {answer : FileSize} {new : List ℕ} (a : answer ≡ writeFile s note levels file .answer)
+          (f : new ≡ writeFile s note levels file .file) where
         refusal-is : answer .refusal ≡ codedRefusal s c levels (length file)
         refusal-is = ap (λ (x : FileSize). x .refusal) a ∙ writing-refusal s note levels file ∙ rw n (sym (coded-is z))
 

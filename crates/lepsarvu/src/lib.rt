@@ -10,7 +10,7 @@ ghost use lib.ListN.{length};
 ghost use Rattle.pyramid.specs.Definitions.Calls.{leaves, coding, rebuilding};
 ghost use Rattle.pyramid.specs.Definitions.Answers.{nodesAnswer, boundsAnswer, deepestAnswer};
 ghost use Rattle.pyramid.specs.Definitions.Refusals.{first, settingsRefusal};
-ghost use Rattle.bale.specs.Definitions.Calls.{sizeAnswer, checking, reading};
+ghost use Rattle.bale.specs.Definitions.Calls.{sizeAnswer, checkFile, readFile};
 ghost use Rattle.lepsarvu.specs.Definitions.Exports.{settingsOf, shapeOf, kindsOf, numbersOf, codedRefusal, codedFile, codedSize};
 
 fn settings(columns: u16, rows: u16, depth: u16, kernel: u16, bins: [u16; 7]) -> Settings
@@ -236,12 +236,12 @@ pub extern "C" fn lepsarvu_read_file(
     kinds: &mut [u8; 2],
     numbers: &mut [u32; 2],
 ) -> u16
-    ensures { λ r. ⌜ r ≡ reading (now (file .entry)) (now (levels .entry)) .answer .refusal ⌝ }
-    ensures { λ _. ⌜ now (levels .exit) ≡ reading (now (file .entry)) (now (levels .entry)) .levels ⌝ }
-    ensures { λ r. ⌜ now (shape .exit) ≡ leaves r (shapeOf (reading (now (file .entry)) (now (levels .entry)) .answer .settings)) (now (shape .entry)) ⌝ }
-    ensures { λ r. ⌜ now (bins .exit) ≡ leaves r (reading (now (file .entry)) (now (levels .entry)) .answer .settings .bins) (now (bins .entry)) ⌝ }
-    ensures { λ r. ⌜ now (kinds .exit) ≡ leaves r (kindsOf (reading (now (file .entry)) (now (levels .entry)) .answer .note)) (now (kinds .entry)) ⌝ }
-    ensures { λ r. ⌜ now (numbers .exit) ≡ leaves r (numbersOf (reading (now (file .entry)) (now (levels .entry)) .answer .note)) (now (numbers .entry)) ⌝ }
+    ensures { λ r. ⌜ r ≡ readFile (now (file .entry)) (now (levels .entry)) .answer .refusal ⌝ }
+    ensures { λ _. ⌜ now (levels .exit) ≡ readFile (now (file .entry)) (now (levels .entry)) .levels ⌝ }
+    ensures { λ r. ⌜ now (shape .exit) ≡ leaves r (shapeOf (readFile (now (file .entry)) (now (levels .entry)) .answer .settings)) (now (shape .entry)) ⌝ }
+    ensures { λ r. ⌜ now (bins .exit) ≡ leaves r (readFile (now (file .entry)) (now (levels .entry)) .answer .settings .bins) (now (bins .entry)) ⌝ }
+    ensures { λ r. ⌜ now (kinds .exit) ≡ leaves r (kindsOf (readFile (now (file .entry)) (now (levels .entry)) .answer .note)) (now (kinds .entry)) ⌝ }
+    ensures { λ r. ⌜ now (numbers .exit) ≡ leaves r (numbersOf (readFile (now (file .entry)) (now (levels .entry)) .answer .note)) (now (numbers .entry)) ⌝ }
 {
     let answer = bale::read_file(file, levels);
     give(answer, shape, bins, kinds, numbers)
@@ -255,11 +255,11 @@ pub extern "C" fn lepsarvu_check_file(
     kinds: &mut [u8; 2],
     numbers: &mut [u32; 2],
 ) -> u16
-    ensures { λ r. ⌜ r ≡ checking (now (file .entry)) .refusal ⌝ }
-    ensures { λ r. ⌜ now (shape .exit) ≡ leaves r (shapeOf (checking (now (file .entry)) .settings)) (now (shape .entry)) ⌝ }
-    ensures { λ r. ⌜ now (bins .exit) ≡ leaves r (checking (now (file .entry)) .settings .bins) (now (bins .entry)) ⌝ }
-    ensures { λ r. ⌜ now (kinds .exit) ≡ leaves r (kindsOf (checking (now (file .entry)) .note)) (now (kinds .entry)) ⌝ }
-    ensures { λ r. ⌜ now (numbers .exit) ≡ leaves r (numbersOf (checking (now (file .entry)) .note)) (now (numbers .entry)) ⌝ }
+    ensures { λ r. ⌜ r ≡ checkFile (now (file .entry)) .refusal ⌝ }
+    ensures { λ r. ⌜ now (shape .exit) ≡ leaves r (shapeOf (checkFile (now (file .entry)) .settings)) (now (shape .entry)) ⌝ }
+    ensures { λ r. ⌜ now (bins .exit) ≡ leaves r (checkFile (now (file .entry)) .settings .bins) (now (bins .entry)) ⌝ }
+    ensures { λ r. ⌜ now (kinds .exit) ≡ leaves r (kindsOf (checkFile (now (file .entry)) .note)) (now (kinds .entry)) ⌝ }
+    ensures { λ r. ⌜ now (numbers .exit) ≡ leaves r (numbersOf (checkFile (now (file .entry)) .note)) (now (numbers .entry)) ⌝ }
 {
     let answer = bale::check_file(file);
     give(answer, shape, bins, kinds, numbers)

@@ -1,7 +1,7 @@
 -- `bale::check_file` meets its contract: a refusal, or what the file says of its bale. Assumes nothing.
 use mathlib.Core.Path.{sym, ap, _∙_}
 use borrow.Author.Needs.{needs}
-use Rattle.bale.specs.Definitions.Calls.{baleOf, checking}
+use Rattle.bale.specs.Definitions.Calls.{baleOf, checkFile}
 use Rattle.bale.proofs.Answers.{refused-bale}
 use Rattle.bale.proofs.check_file.Statement.{statement}
 use Rattle.bale.proofs.check_file.Tie as tie
@@ -16,14 +16,14 @@ refused-requires : tie.Need-refused-requires
 refused-requires c κs = search needs
 
 returns : tie.Need-returns
-unfolding checking
+unfolding checkFile
 returns c = let refusal = c .before in c .refused .ensures ∙ refused-bale _ (refusal .if1 .taken) ∙ ap (baleOf _) (refusal .before .check-refusal .ensures)
 
 accepted-requires : tie.Need-accepted-requires
 accepted-requires c κs = search needs
 
 returns-2 : tie.Need-returns-2
-unfolding checking
+unfolding checkFile
 returns-2 c = let none = c .before in c .accepted .ensures ∙ ap (baleOf _) (sym (none .if1 .left) ∙ none .before .check-refusal .ensures)
 
 pub check-file-spec : {M : Type 1} → statement M

@@ -15,12 +15,11 @@ use Rattle.bale.specs.declared.FileSize.{FileSize}
 use Rattle.bale.specs.declared.Bale.{Bale}
 use Rattle.bale.specs.Definitions.Readings.{noteOk}
 use Rattle.bale.specs.Definitions.Files.{fileOf, fileSize}
-use Rattle.bale.specs.Definitions.Reader.{settingsIn, noteIn, levelsIn, shapeSectionRefusal, bodyRefusal}
-use Rattle.bale.specs.Definitions.Words.{u16At}
+use Rattle.bale.specs.Definitions.Reader.{depthIn, settingsIn, noteIn, levelsIn, shapeSectionRefusal, bodyRefusal}
 
 -- ---- the writer
 
-pub record Writing : Type 0 where
+pub record WriteOutcome : Type 0 where
   pub answer : FileSize
   pub file : List ℕ
 
@@ -40,8 +39,8 @@ module _ (s : Settings) where
       ∷ [])
 
   -- it answers the size; bytes of its buffer after the file are untouched
-  unfoldable pub writing : Note → List ℤ → List ℕ → Writing
-  writing note levels file =
+  unfoldable pub writeFile : Note → List ℤ → List ℕ → WriteOutcome
+  writeFile note levels file =
       let refusal = writeRefusal note levels (length file) in
       record {
         answer = record { refusal = refusal; size = leaves refusal (fileSize s) 0 };
@@ -57,7 +56,7 @@ noSettings = record { columns = 0; rows = 0; depth = 0; kernel = 0; bins = repli
 unfoldable pub noNote : Note
 noNote = record { «before_drier» = NotFitted; «at_press» = NotFitted }
 
-pub record ReadingFile : Type 0 where
+pub record ReadOutcome : Type 0 where
   pub answer : Bale
   pub levels : List ℤ
 
@@ -75,13 +74,13 @@ module _ (bytes : List ℕ) where
       record {
         refusal = refusal;
         settings = leaves refusal (settingsIn bytes) noSettings;
-        note = leaves refusal (noteIn bytes (u16At bytes 6)) noNote;
+        note = leaves refusal (noteIn bytes (depthIn bytes)) noNote;
       }
 
-  unfoldable pub checking : Bale
-  checking = baleOf checkRefusal
+  unfoldable pub checkFile : Bale
+  checkFile = baleOf checkRefusal
 
-  unfoldable pub reading : List ℤ → ReadingFile
-  reading levels =
+  unfoldable pub readFile : List ℤ → ReadOutcome
+  readFile levels =
       let refusal = readRefusal (length levels) in
       record { answer = baleOf refusal; levels = leaves refusal (levelsIn bytes) levels }

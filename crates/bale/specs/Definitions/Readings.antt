@@ -1,4 +1,5 @@
--- A probe reading and its five bytes (document 01, "Bale file"): a kind byte, and a 32-bit number, low byte first. Assumes nothing.
+-- A probe reading, its kind and its number (document 01, "Bale file"): not fitted (0), a percentage held as a 32-bit float (1), or a fault
+-- code (2). Assumes nothing.
 use mathlib.Core.Bool.{Bool, true, false, _&&_}
 use mathlib.Core.List.{List, _∷_}
 use Prim.Native.Nat.{ℕ, zero, suc}
@@ -13,9 +14,7 @@ use Rattle.bale.specs.declared.Probe.{Probe}
 use Rattle.bale.specs.declared.Code.{Code}
 use Rattle.bale.specs.Definitions.Words.{le32}
 
--- ---- what is lawful
-
--- a percentage of these bits has a clear sign bit and is at most 100, so it is never a NaN
+-- a percentage of these bits has a clear sign bit and is at most 100, whose bits are 42C80000, so it is never a NaN
 unfoldable pub percentageOk : ℕ → Float → Bool
 percentageOk bits x = ltb bits 0x8000_0000 && le x (ofBits binary32 0x42C8_0000)
 
@@ -23,56 +22,42 @@ percentageOk bits x = ltb bits 0x8000_0000 && le x (ofBits binary32 0x42C8_0000)
 unfoldable pub faultOk : ℕ → Bool
 faultOk code = leb 1 code && leb code 255
 
+-- ---- as it is written
+
+-- a kind and a number where the rule holds, else 4 and zeros
+unfoldable pub codeWhere : Bool → ℕ → ℕ → Code
+codeWhere ok kind number =
+    let refusal = unless ok 4 in
+    record { refusal = refusal; kind = leaves refusal kind 0; number = leaves refusal number 0 }
+
+-- the kind and the number of a reading: not fitted is four zero bytes, and a percentage's bits are kept unchanged
+unfoldable pub codeOf : Reading → Code
+codeOf NotFitted = codeWhere true 0 0
+codeOf (Percentage x) = codeWhere (percentageOk (toBits binary32 x) x) 1 (toBits binary32 x)
+codeOf (Fault code) = codeWhere (faultOk code) 2 code
+
+-- its five bytes
+abbrev pub readingBytes : Reading → List ℕ
+readingBytes reading = codeOf reading .kind ∷ le32 (codeOf reading .number)
+
 abbrev pub readingOk : Reading → Bool
-readingOk NotFitted = true
-readingOk (Percentage x) = percentageOk (toBits binary32 x) x
-readingOk (Fault code) = faultOk code
+readingOk reading = eqb (codeOf reading .refusal) 0
 
 -- either reading may be not fitted
 unfoldable pub noteOk : Note → Bool
 noteOk note = readingOk (note .«before_drier») && readingOk (note .«at_press»)
 
--- ---- as it is written
-
--- kinds: not fitted, a percentage, a fault code
-abbrev pub kindOf : Reading → ℕ
-kindOf NotFitted = 0
-kindOf (Percentage x) = 1
-kindOf (Fault code) = 2
-
--- not fitted is four zero bytes; a percentage's bits are kept unchanged
-abbrev pub numberOf : Reading → ℕ
-numberOf NotFitted = 0
-numberOf (Percentage x) = toBits binary32 x
-numberOf (Fault code) = code
-
-abbrev pub readingBytes : Reading → List ℕ
-readingBytes reading = kindOf reading ∷ le32 (numberOf reading)
-
--- the kind and the number of a reading, or 4 and zeros
-unfoldable pub codeOf : Reading → Code
-codeOf reading =
-    let refusal = unless (readingOk reading) 4 in
-    record { refusal = refusal; kind = leaves refusal (kindOf reading) 0; number = leaves refusal (numberOf reading) 0 }
-
 -- ---- as it is read
 
--- the reading that a kind and a number stand for
-unfoldable pub readingOf : ℕ → ℕ → Reading
-readingOf zero n = NotFitted
-readingOf (suc zero) n = Percentage (ofBits binary32 n)
-readingOf (suc (suc kind)) n = Fault n
+-- a reading where the rule holds, else 4 and not fitted
+unfoldable pub probeWhere : Bool → Reading → Probe
+probeWhere ok reading =
+    let refusal = unless ok 4 in
+    record { refusal = refusal; reading = leaves refusal reading NotFitted }
 
--- whether they stand for one: no kind is above 2
-unfoldable pub codedOk : ℕ → ℕ → Bool
-codedOk zero n = eqb n 0
-codedOk (suc zero) n = percentageOk n (ofBits binary32 n)
-codedOk (suc (suc zero)) n = faultOk n
-codedOk (suc (suc (suc kind))) n = false
-
--- the reading of a kind and a number, or 4 and not fitted
+-- the reading that a kind and a number stand for; no kind is above 2
 unfoldable pub decode : ℕ → ℕ → Probe
-unfolding readingOf
-decode kind n =
-    let refusal = unless (codedOk kind n) 4 in
-    record { refusal = refusal; reading = leaves refusal (readingOf kind n) NotFitted }
+decode zero n = probeWhere (eqb n 0) NotFitted
+decode (suc zero) n = probeWhere (percentageOk n (ofBits binary32 n)) (Percentage (ofBits binary32 n))
+decode (suc (suc zero)) n = probeWhere (faultOk n) (Fault n)
+decode (suc (suc (suc kind))) n = probeWhere false NotFitted

@@ -10,11 +10,17 @@ use Rattle.bale.specs.Definitions.Words.{le16, words, u16At}
 unfoldable pub numbersSection : List ℕ → List ℕ
 numbersSection ns = le16 (length ns) ++ words ns
 
--- a section that is read at a place, of so many items of so many bytes: its count is present (9), its count is right (10), its items are
--- all present (9)
+-- where the items of a section start that starts at a place, and where it ends: it has so many items of so many bytes
+abbrev pub itemsAt : ℕ → ℕ
+itemsAt at = at + 2
+
+abbrev pub endOf : (at count size : ℕ) → ℕ
+endOf at count size = itemsAt at + size * count
+
+-- a section that is read: its count is present (9), its count is right (10), its items are all present (9)
 unfoldable pub sectionRefusal : List ℕ → (at count size : ℕ) → ℕ
 sectionRefusal bytes at count size =
-    first (unless (leb (at + 2) (length bytes)) 9
+    first (unless (leb (itemsAt at) (length bytes)) 9
     ∷ unless (eqb (u16At bytes at) count) 10
-    ∷ unless (leb (at + 2 + count * size) (length bytes)) 9
+    ∷ unless (leb (endOf at count size) (length bytes)) 9
     ∷ [])

@@ -1,10 +1,10 @@
 -- Numbers as bytes, low byte first, and indices in two's complement (document 01, "Bale file"). Assumes nothing.
+use mathlib.Core.Bool.{cond}
 use mathlib.Core.List.{List, [], _∷_, _++_, map}
-use Prim.Native.Nat.{ℕ, zero, suc, _+_, _*_, _/_, _%_}
-use lib.IntN.{ℤ}
+use Prim.Native.Nat.{ℕ, zero, suc, _+_, _-_, _*_, _/_, _%_}
+use lib.Dec.{ltb}
+use lib.IntN.{ℤ, pos, negsuc, _-ℤ_}
 use lib.ListN.{getD}
-use mir.Syntax.{w16}
-use mir.Val.{ofZ, toZ}
 
 -- the two bytes of a 16-bit number, and the four of a 32-bit number
 unfoldable pub le16 : ℕ → List ℕ
@@ -18,12 +18,14 @@ unfoldable pub words : List ℕ → List ℕ
 words [] = []
 words (n ∷ ns) = le16 n ++ words ns
 
--- an index as a 16-bit number in two's complement, and the index that such a number stands for
+-- an index as a 16-bit number in two's complement: itself or, where it is negative, 65,536 more; `negsuc n` is -(n + 1)
 unfoldable pub indexWord : ℤ → ℕ
-indexWord m = ofZ w16 m
+indexWord (pos n) = n
+indexWord (negsuc n) = 65536 - (n + 1)
 
+-- the index that such a number stands for: n, or n - 65,536 from 32,768 on
 unfoldable pub wordIndex : ℕ → ℤ
-wordIndex n = toZ w16 n
+wordIndex n = cond (ltb n 32768) (pos n) (pos n -ℤ pos 65536)
 
 module _ (bytes : List ℕ) where
   -- the number whose bytes stand at a place

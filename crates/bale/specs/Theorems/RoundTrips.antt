@@ -17,7 +17,7 @@ use Rattle.bale.specs.declared.Reading.the-variants.{NotFitted, Percenta
 use Rattle.bale.specs.declared.Note.{Note}
 use Rattle.bale.specs.Definitions.Readings.{noteOk}
 use Rattle.bale.specs.Definitions.Files.{fileOf, fileSize}
-use Rattle.bale.specs.Definitions.Calls.{writeRefusal, writing, readRefusal, reading}
+use Rattle.bale.specs.Definitions.Calls.{writeRefusal, writeFile, readRefusal, readFile}
 
 -- ---- what the types of the arguments say of them, and no more
 
@@ -39,7 +39,7 @@ pub record WrittenIsRead (s : Settings) (note : Note) (levels : List ℤ) : Type
   pub size : length (fileOf s note levels) ≡ fileSize s
   pub most : fileSize s ≤ 44770
   pub read : (lent : List ℤ) → length lent ≡ total s
-      → reading (fileOf s note levels) lent ≡ record { answer = record { refusal = 0; settings = s; note = note }; levels = levels }
+      → readFile (fileOf s note levels) lent ≡ record { answer = record { refusal = 0; settings = s; note = note }; levels = levels }
 
 abbrev pub WrittenThenRead : Type 0
 WrittenThenRead =
@@ -48,9 +48,9 @@ WrittenThenRead =
 -- ---- read, then written: any list of bytes that the reader accepts is what the writer writes for what was read
 
 pub record ReadIsWritten (bytes : List ℕ) (lent : List ℤ) : Type 0 where
-  pub same : fileOf (reading bytes lent .answer .settings) (reading bytes lent .answer .note) (reading bytes lent .levels) ≡ bytes
+  pub same : fileOf (readFile bytes lent .answer .settings) (readFile bytes lent .answer .note) (readFile bytes lent .levels) ≡ bytes
   pub written : (file : List ℕ) → length bytes ≤ length file
-      → writing (reading bytes lent .answer .settings) (reading bytes lent .answer .note) (reading bytes lent .levels) file
+      → writeFile (readFile bytes lent .answer .settings) (readFile bytes lent .answer .note) (readFile bytes lent .levels) file
       ≡ record { answer = record { refusal = 0; size = length bytes }; file = bytes ++ drop (length bytes) file }
 
 abbrev pub ReadThenWritten : Type 0

@@ -9,7 +9,7 @@ use Rattle.pyramid.specs.Definitions.Calls.{leaves}
 use Rattle.bale.specs.declared.Note.{Note}
 use Rattle.bale.specs.Definitions.Readings.{codeOf, decode}
 use Rattle.bale.specs.Definitions.Files.{fileSize}
-use Rattle.bale.specs.Definitions.Calls.{Writing, writeRefusal, writing}
+use Rattle.bale.specs.Definitions.Calls.{WriteOutcome, writeRefusal, writeFile}
 
 abbrev pub settingsOf : (columns rows depth kernel : ℕ) → List ℕ → Settings
 settingsOf columns rows depth kernel bins = record { columns = columns; rows = rows; depth = depth; kernel = kernel; bins = bins }
@@ -51,7 +51,7 @@ module _ (s : Settings) (c : Coded) where
 
   -- the file buffer afterwards
   unfoldable pub codedFile : List ℤ → List ℕ → List ℕ
-  codedFile levels file = leaves (codedRefusal levels (length file)) (writing s (noteOf c) levels file .file) file
+  codedFile levels file = leaves (codedRefusal levels (length file)) (writeFile s (noteOf c) levels file .file) file
 
   -- the lent size afterwards
   unfoldable pub codedSize : List ℤ → ℕ → ℕ → ℕ

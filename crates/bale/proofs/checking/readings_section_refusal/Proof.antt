@@ -16,8 +16,8 @@ returns : tie.Need-returns
 unfolding readingsSectionRefusal
 returns c = let section = c .before in answers-stop _ (section .section-refusal .ensures ∙ rw (section .before .readings .ensures)) (c .if1 .taken)
 
-add-probe-at : tie.Need-add-probe-at
-add-probe-at c = search needs
+drier-requires : tie.Need-drier-requires
+drier-requires c κs = search needs
 
 probe-at-requires : tie.Need-probe-at-requires
 probe-at-requires c κs = search needs
@@ -26,12 +26,12 @@ returns-2 : tie.Need-returns-2
 unfolding readingsSectionRefusal
 returns-2 c =
     let drier = c .before .before in
-    let whole = drier .before in
-    let place = whole .before .before .readings .ensures in
-    answers-stop _ (rw (drier .probe-at .ensures, place)) (c .if2 .taken) ∙ answers-skip _ (whole .before .section-refusal .ensures ∙ rw place) (whole .if1 .left)
+    let whole = drier .before .before in
+    answers-stop _ (rw (drier .probe-at .ensures, drier .before .drier .ensures)) (c .if2 .taken)
+    ∙ answers-skip _ (whole .before .section-refusal .ensures ∙ rw (whole .before .before .readings .ensures)) (whole .if1 .left)
 
-add-probe-at-2 : tie.Need-add-probe-at-2
-add-probe-at-2 c = search needs
+press-requires : tie.Need-press-requires
+press-requires c κs = search needs
 
 probe-at-requires-2 : tie.Need-probe-at-requires-2
 probe-at-requires-2 c κs = search needs
@@ -39,11 +39,11 @@ probe-at-requires-2 c κs = search needs
 returns-3 : tie.Need-returns-3
 unfolding readingsSectionRefusal
 returns-3 c =
-    let drier = c .before .before .before in
-    let whole = drier .before in
-    let place = whole .before .before .readings .ensures in
-    answers-second (rw (drier .probe-at .ensures, place)) (c .before .if2 .left) (rw (c .probe-at2 .ensures, place))
-    ∙ answers-skip _ (whole .before .section-refusal .ensures ∙ rw place) (whole .if1 .left)
+    let lawful = c .before .before in
+    let drier = lawful .before .before in
+    let whole = drier .before .before in
+    answers-second (rw (drier .probe-at .ensures, drier .before .drier .ensures)) (lawful .if2 .left) (rw (c .probe-at2 .ensures, c .before .press .ensures))
+    ∙ answers-skip _ (whole .before .section-refusal .ensures ∙ rw (whole .before .before .readings .ensures)) (whole .if1 .left)
 
 pub readings-section-refusal-spec : {M : Type 1} → statement M
 readings-section-refusal-spec =
@@ -52,9 +52,9 @@ readings-section-refusal-spec =
     readings-requires
     section-refusal-requires
     returns
-    add-probe-at
+    drier-requires
     probe-at-requires
     returns-2
-    add-probe-at-2
+    press-requires
     probe-at-requires-2
     returns-3)

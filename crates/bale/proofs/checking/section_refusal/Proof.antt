@@ -23,7 +23,7 @@ returns-2 c = let word = c .before in count-wrong _ _ _ _ (word .before .if1 .le
 add-if3 : tie.Need-add-if3
 add-if3 c = search needs
 
-all-items : (c : tie.Else2) → let a = c .before .before .before .before .args in a .count * a .size ≤ 327675
+all-items : (c : tie.Else2) → let a = c .before .before .before .before .args in a .size * a .count ≤ 327675
 all-items c = items-small _ _ (omega arith) (omega arith)
 
 mul-if3 : tie.Need-mul-if3

@@ -4,17 +4,14 @@ use Rattle.bale.specs.Definitions.Reader.{noteIn}
 use Rattle.bale.proofs.finding.note_in.Statement.{statement}
 use Rattle.bale.proofs.finding.note_in.Tie as tie
 
-readings-requires : tie.Need-readings-requires
-readings-requires c κs = search needs
-
-add-probe-at : tie.Need-add-probe-at
-add-probe-at c = search needs
+drier-requires : tie.Need-drier-requires
+drier-requires c κs = search needs
 
 probe-at-requires : tie.Need-probe-at-requires
 probe-at-requires c κs = search needs
 
-add-probe-at-2 : tie.Need-add-probe-at-2
-add-probe-at-2 c = search needs
+press-requires : tie.Need-press-requires
+press-requires c κs = search needs
 
 probe-at-requires-2 : tie.Need-probe-at-requires-2
 probe-at-requires-2 c κs = search needs
@@ -24,12 +21,4 @@ unfolding noteIn
 returns c = cc
 
 pub note-in-spec : {M : Type 1} → statement M
-note-in-spec =
-    tie.close
-    (tie.spec
-    readings-requires
-    add-probe-at
-    probe-at-requires
-    add-probe-at-2
-    probe-at-requires-2
-    returns)
+note-in-spec = tie.close (tie.spec drier-requires probe-at-requires press-requires probe-at-requires-2 returns)

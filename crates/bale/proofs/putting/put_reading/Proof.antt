@@ -1,7 +1,6 @@
--- `bale::putting::put_reading` meets its contract: a lawful reading is its kind and number. Assumes nothing.
+-- `bale::putting::put_reading` meets its contract: a reading is written as its kind and number. Assumes nothing.
 use mathlib.Core.Path.{_∙_}
 use borrow.Author.Needs.{needs}
-use Rattle.bale.proofs.Readings.{code-lawful}
 use Rattle.bale.proofs.putting.put_reading.Statement.{statement}
 use Rattle.bale.proofs.putting.put_reading.Tie as tie
 
@@ -16,9 +15,7 @@ same-length c = search needs
 
 returns : tie.Need-returns
 returns c =
-    let a = c .before .before .before .before .before .before .args in
-    let e = c .before .before .before .before .code-of .ensures ∙ code-lawful (a .reading) (c .before .before .before .before .before .before .pre .0) in
-    c .before .before .put-code .ensures ∙ rw e
+    c .before .before .put-code .ensures ∙ rw (c .before .before .before .before .code-of .ensures)
 
 pub put-reading-spec : {M : Type 1} → statement M
 put-reading-spec = tie.close (tie.spec code-of-requires put-code-requires same-length returns)
