@@ -16,7 +16,8 @@ ghost use Rattle.bale.specs.Definitions.Calls.{readRefusal};
 // So many indices of the file, from a place on, into the level buffer's places from `from` on.
 fn fill_indices(file: &[u8], at: usize, count: usize, levels: &mut [i16], from: usize)
     requires { ⌜ (at + 2 * count ≤ length (now file)) × (from + count ≤ length (now levels)) ⌝ }
-    ensures { λ _. ⌜ now (levels .exit) ≡ splice from (indicesAt (now (file .entry)) at count) (now (levels .entry)) ⌝ }
+    ensures { λ _. ⌜ now (levels .exit) ≡
+        splice from (indicesAt (now (file .entry)) at count) (now (levels .entry)) ⌝ }
 {
     let mut i = 0;
     while i < count {
@@ -28,8 +29,10 @@ fn fill_indices(file: &[u8], at: usize, count: usize, levels: &mut [i16], from: 
 // The indices of a level and of those below it.
 fn fill_levels(file: &[u8], s: Settings, level: u16, at: usize, levels: &mut [i16], from: usize)
     requires { ⌜ Shaped s ⌝ }
-    requires { ⌜ (level ≤ s .depth) × (from + nodesTo s level ≤ length (now levels)) × (at + 2 * (level + 1) + 2 * nodesTo s level ≤ length (now file)) ⌝ }
-    ensures { λ _. ⌜ now (levels .exit) ≡ splice from (levelsFrom (now (file .entry)) s level at) (now (levels .entry)) ⌝ }
+    requires { ⌜ (level ≤ s .depth) × (from + nodesTo s level ≤ length (now levels))
+        × (at + 2 * (level + 1) + 2 * nodesTo s level ≤ length (now file)) ⌝ }
+    ensures { λ _. ⌜ now (levels .exit) ≡
+        splice from (levelsFrom (now (file .entry)) s level at) (now (levels .entry)) ⌝ }
 {
     let nodes = checking::nodes_of(s, level);
     fill_indices(file, at + 2, nodes, levels, from);

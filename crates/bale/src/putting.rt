@@ -87,7 +87,8 @@ fn put_readings(note: Note, file: &mut [u8], at: usize)
 // The numbers of indices.
 fn put_indices(indices: &[i16], file: &mut [u8], at: usize)
     requires { ⌜ at + 2 * length (now indices) ≤ length (now file) ⌝ }
-    ensures { λ _. ⌜ now (file .exit) ≡ splice at (words (map indexWord (now (indices .entry)))) (now (file .entry)) ⌝ }
+    ensures { λ _. ⌜ now (file .exit) ≡
+        splice at (words (map indexWord (now (indices .entry)))) (now (file .entry)) ⌝ }
 {
     let mut i = 0;
     while i < indices.len() {
@@ -108,8 +109,10 @@ fn put_level(indices: &[i16], file: &mut [u8], at: usize)
 // The sections of a level and of those below it, whose indices stand in the level buffer from `from` on.
 fn put_levels(s: Settings, level: u16, levels: &[i16], from: usize, file: &mut [u8], at: usize)
     requires { ⌜ Shaped s ⌝ }
-    requires { ⌜ (level ≤ s .depth) × (from + nodesTo s level ≤ length (now levels)) × (at + 2 * (level + 1) + 2 * nodesTo s level ≤ length (now file)) ⌝ }
-    ensures { λ _. ⌜ now (file .exit) ≡ splice at (levelSections s level (drop from (now (levels .entry)))) (now (file .entry)) ⌝ }
+    requires { ⌜ (level ≤ s .depth) × (from + nodesTo s level ≤ length (now levels))
+        × (at + 2 * (level + 1) + 2 * nodesTo s level ≤ length (now file)) ⌝ }
+    ensures { λ _. ⌜ now (file .exit) ≡
+        splice at (levelSections s level (drop from (now (levels .entry)))) (now (file .entry)) ⌝ }
 {
     let nodes = checking::nodes_of(s, level);
     let to = from + nodes;
@@ -122,7 +125,8 @@ fn put_levels(s: Settings, level: u16, levels: &[i16], from: usize, file: &mut [
 // A file that the writer accepts.
 pub fn put_file(s: Settings, note: Note, levels: &[i16], file: &mut [u8])
     requires { ⌜ writeRefusal s note (now levels) (length (now file)) ≡ 0 ⌝ }
-    ensures { λ _. ⌜ now (file .exit) ≡ fileOf s note (now (levels .entry)) ++ drop (fileSize s) (now (file .entry)) ⌝ }
+    ensures { λ _. ⌜ now (file .exit) ≡
+        fileOf s note (now (levels .entry)) ++ drop (fileSize s) (now (file .entry)) ⌝ }
 {
     put_shape(s, file);
     put_bins(s, file, places::BINS);

@@ -36,9 +36,15 @@ pub extern "C" fn lepsarvu_coding(
     levels: &mut [i16],
     work: &mut [i32],
 ) -> u16
-    ensures { λ r. ⌜ r ≡ coding (settingsOf columns rows depth kernel (now (bins .entry))) (now (picture .entry)) (now (levels .entry)) (now (work .entry)) .answer ⌝ }
-    ensures { λ _. ⌜ now (levels .exit) ≡ coding (settingsOf columns rows depth kernel (now (bins .entry))) (now (picture .entry)) (now (levels .entry)) (now (work .entry)) .levels ⌝ }
-    ensures { λ _. ⌜ now (work .exit) ≡ coding (settingsOf columns rows depth kernel (now (bins .entry))) (now (picture .entry)) (now (levels .entry)) (now (work .entry)) .work ⌝ }
+    ensures { λ r. ⌜ r ≡
+        coding (settingsOf columns rows depth kernel (now (bins .entry))) (now (picture .entry))
+        (now (levels .entry)) (now (work .entry)) .answer ⌝ }
+    ensures { λ _. ⌜ now (levels .exit) ≡
+        coding (settingsOf columns rows depth kernel (now (bins .entry))) (now (picture .entry))
+        (now (levels .entry)) (now (work .entry)) .levels ⌝ }
+    ensures { λ _. ⌜ now (work .exit) ≡
+        coding (settingsOf columns rows depth kernel (now (bins .entry))) (now (picture .entry))
+        (now (levels .entry)) (now (work .entry)) .work ⌝ }
 {
     let b = *bins;
     let s = settings(columns, rows, depth, kernel, b);
@@ -56,9 +62,15 @@ pub extern "C" fn lepsarvu_rebuilding(
     picture: &mut [u8],
     work: &mut [i32],
 ) -> u16
-    ensures { λ r. ⌜ r ≡ rebuilding (settingsOf columns rows depth kernel (now (bins .entry))) (now (levels .entry)) (now (picture .entry)) (now (work .entry)) .answer ⌝ }
-    ensures { λ _. ⌜ now (picture .exit) ≡ rebuilding (settingsOf columns rows depth kernel (now (bins .entry))) (now (levels .entry)) (now (picture .entry)) (now (work .entry)) .picture ⌝ }
-    ensures { λ _. ⌜ now (work .exit) ≡ rebuilding (settingsOf columns rows depth kernel (now (bins .entry))) (now (levels .entry)) (now (picture .entry)) (now (work .entry)) .work ⌝ }
+    ensures { λ r. ⌜ r ≡
+        rebuilding (settingsOf columns rows depth kernel (now (bins .entry))) (now (levels .entry))
+        (now (picture .entry)) (now (work .entry)) .answer ⌝ }
+    ensures { λ _. ⌜ now (picture .exit) ≡
+        rebuilding (settingsOf columns rows depth kernel (now (bins .entry))) (now (levels .entry))
+        (now (picture .entry)) (now (work .entry)) .picture ⌝ }
+    ensures { λ _. ⌜ now (work .exit) ≡
+        rebuilding (settingsOf columns rows depth kernel (now (bins .entry))) (now (levels .entry))
+        (now (picture .entry)) (now (work .entry)) .work ⌝ }
 {
     let b = *bins;
     let s = settings(columns, rows, depth, kernel, b);
@@ -75,7 +87,9 @@ pub extern "C" fn lepsarvu_level_bounds(
     bounds: &mut [u16; 7],
 ) -> u16
     ensures { λ r. ⌜ r ≡ boundsAnswer (settingsOf columns rows depth kernel (now (bins .entry))) .refusal ⌝ }
-    ensures { λ r. ⌜ now (bounds .exit) ≡ leaves r (boundsAnswer (settingsOf columns rows depth kernel (now (bins .entry))) .levels) (now (bounds .entry)) ⌝ }
+    ensures { λ r. ⌜ now (bounds .exit) ≡
+        leaves r (boundsAnswer (settingsOf columns rows depth kernel (now (bins .entry))) .levels)
+        (now (bounds .entry)) ⌝ }
 {
     let b = *bins;
     let answer = pyramid::level_bounds(settings(columns, rows, depth, kernel, b));
@@ -108,7 +122,9 @@ pub extern "C" fn lepsarvu_total_nodes(
     nodes: &mut u16,
 ) -> u16
     ensures { λ r. ⌜ r ≡ nodesAnswer (settingsOf columns rows depth kernel (now (bins .entry))) .refusal ⌝ }
-    ensures { λ r. ⌜ now (nodes .exit) ≡ leaves r (nodesAnswer (settingsOf columns rows depth kernel (now (bins .entry))) .nodes) (now (nodes .entry)) ⌝ }
+    ensures { λ r. ⌜ now (nodes .exit) ≡
+        leaves r (nodesAnswer (settingsOf columns rows depth kernel (now (bins .entry))) .nodes)
+        (now (nodes .entry)) ⌝ }
 {
     let b = *bins;
     let answer = pyramid::total_nodes(settings(columns, rows, depth, kernel, b));
@@ -139,7 +155,9 @@ pub extern "C" fn lepsarvu_file_size(
     size: &mut usize,
 ) -> u16
     ensures { λ r. ⌜ r ≡ sizeAnswer (settingsOf columns rows depth kernel (now (bins .entry))) .refusal ⌝ }
-    ensures { λ r. ⌜ now (size .exit) ≡ leaves r (sizeAnswer (settingsOf columns rows depth kernel (now (bins .entry))) .size) (now (size .entry)) ⌝ }
+    ensures { λ r. ⌜ now (size .exit) ≡
+        leaves r (sizeAnswer (settingsOf columns rows depth kernel (now (bins .entry))) .size)
+        (now (size .entry)) ⌝ }
 {
     let b = *bins;
     let answer = bale::file_size(settings(columns, rows, depth, kernel, b));
@@ -175,9 +193,15 @@ pub extern "C" fn lepsarvu_write_file(
     file: &mut [u8],
     size: &mut usize,
 ) -> u16
-    ensures { λ r. ⌜ r ≡ codedRefusal (settingsOf columns rows depth kernel (now (bins .entry))) (record { drierKind = «drier_kind»; drierNumber = «drier_number»; pressKind = «press_kind»; pressNumber = «press_number» }) (now (levels .entry)) (length (now (file .entry))) ⌝ }
-    ensures { λ _. ⌜ now (file .exit) ≡ codedFile (settingsOf columns rows depth kernel (now (bins .entry))) (record { drierKind = «drier_kind»; drierNumber = «drier_number»; pressKind = «press_kind»; pressNumber = «press_number» }) (now (levels .entry)) (now (file .entry)) ⌝ }
-    ensures { λ _. ⌜ now (size .exit) ≡ codedSize (settingsOf columns rows depth kernel (now (bins .entry))) (record { drierKind = «drier_kind»; drierNumber = «drier_number»; pressKind = «press_kind»; pressNumber = «press_number» }) (now (levels .entry)) (length (now (file .entry))) (now (size .entry)) ⌝ }
+    ensures { λ r. ⌜ r ≡
+        codedRefusal (settingsOf columns rows depth kernel (now (bins .entry))) «drier_kind» «drier_number»
+        «press_kind» «press_number» (now (levels .entry)) (length (now (file .entry))) ⌝ }
+    ensures { λ _. ⌜ now (file .exit) ≡
+        codedFile (settingsOf columns rows depth kernel (now (bins .entry))) «drier_kind» «drier_number»
+        «press_kind» «press_number» (now (levels .entry)) (now (file .entry)) ⌝ }
+    ensures { λ _. ⌜ now (size .exit) ≡
+        codedSize (settingsOf columns rows depth kernel (now (bins .entry))) «drier_kind» «drier_number»
+        «press_kind» «press_number» (now (levels .entry)) (length (now (file .entry))) (now (size .entry)) ⌝ }
 {
     let b = *bins;
     let s = settings(columns, rows, depth, kernel, b);
@@ -206,10 +230,14 @@ fn give(
     numbers: &mut [u32; 2],
 ) -> u16
     ensures { λ r. ⌜ r ≡ answer .refusal ⌝ }
-    ensures { λ _. ⌜ now (shape .exit) ≡ leaves (answer .refusal) (shapeOf (answer .settings)) (now (shape .entry)) ⌝ }
-    ensures { λ _. ⌜ now (bins .exit) ≡ leaves (answer .refusal) (answer .settings .bins) (now (bins .entry)) ⌝ }
-    ensures { λ _. ⌜ now (kinds .exit) ≡ leaves (answer .refusal) (kindsOf (answer .note)) (now (kinds .entry)) ⌝ }
-    ensures { λ _. ⌜ now (numbers .exit) ≡ leaves (answer .refusal) (numbersOf (answer .note)) (now (numbers .entry)) ⌝ }
+    ensures { λ _. ⌜ now (shape .exit) ≡
+        leaves (answer .refusal) (shapeOf (answer .settings)) (now (shape .entry)) ⌝ }
+    ensures { λ _. ⌜ now (bins .exit) ≡
+        leaves (answer .refusal) (answer .settings .bins) (now (bins .entry)) ⌝ }
+    ensures { λ _. ⌜ now (kinds .exit) ≡
+        leaves (answer .refusal) (kindsOf (answer .note)) (now (kinds .entry)) ⌝ }
+    ensures { λ _. ⌜ now (numbers .exit) ≡
+        leaves (answer .refusal) (numbersOf (answer .note)) (now (numbers .entry)) ⌝ }
 {
     if answer.refusal == 0 {
         let s = answer.settings;
@@ -238,10 +266,18 @@ pub extern "C" fn lepsarvu_read_file(
 ) -> u16
     ensures { λ r. ⌜ r ≡ readFile (now (file .entry)) (now (levels .entry)) .answer .refusal ⌝ }
     ensures { λ _. ⌜ now (levels .exit) ≡ readFile (now (file .entry)) (now (levels .entry)) .levels ⌝ }
-    ensures { λ r. ⌜ now (shape .exit) ≡ leaves r (shapeOf (readFile (now (file .entry)) (now (levels .entry)) .answer .settings)) (now (shape .entry)) ⌝ }
-    ensures { λ r. ⌜ now (bins .exit) ≡ leaves r (readFile (now (file .entry)) (now (levels .entry)) .answer .settings .bins) (now (bins .entry)) ⌝ }
-    ensures { λ r. ⌜ now (kinds .exit) ≡ leaves r (kindsOf (readFile (now (file .entry)) (now (levels .entry)) .answer .note)) (now (kinds .entry)) ⌝ }
-    ensures { λ r. ⌜ now (numbers .exit) ≡ leaves r (numbersOf (readFile (now (file .entry)) (now (levels .entry)) .answer .note)) (now (numbers .entry)) ⌝ }
+    ensures { λ r. ⌜ now (shape .exit) ≡
+        leaves r (shapeOf (readFile (now (file .entry)) (now (levels .entry)) .answer .settings))
+        (now (shape .entry)) ⌝ }
+    ensures { λ r. ⌜ now (bins .exit) ≡
+        leaves r (readFile (now (file .entry)) (now (levels .entry)) .answer .settings .bins)
+        (now (bins .entry)) ⌝ }
+    ensures { λ r. ⌜ now (kinds .exit) ≡
+        leaves r (kindsOf (readFile (now (file .entry)) (now (levels .entry)) .answer .note))
+        (now (kinds .entry)) ⌝ }
+    ensures { λ r. ⌜ now (numbers .exit) ≡
+        leaves r (numbersOf (readFile (now (file .entry)) (now (levels .entry)) .answer .note))
+        (now (numbers .entry)) ⌝ }
 {
     let answer = bale::read_file(file, levels);
     give(answer, shape, bins, kinds, numbers)
@@ -256,10 +292,14 @@ pub extern "C" fn lepsarvu_check_file(
     numbers: &mut [u32; 2],
 ) -> u16
     ensures { λ r. ⌜ r ≡ checkFile (now (file .entry)) .refusal ⌝ }
-    ensures { λ r. ⌜ now (shape .exit) ≡ leaves r (shapeOf (checkFile (now (file .entry)) .settings)) (now (shape .entry)) ⌝ }
-    ensures { λ r. ⌜ now (bins .exit) ≡ leaves r (checkFile (now (file .entry)) .settings .bins) (now (bins .entry)) ⌝ }
-    ensures { λ r. ⌜ now (kinds .exit) ≡ leaves r (kindsOf (checkFile (now (file .entry)) .note)) (now (kinds .entry)) ⌝ }
-    ensures { λ r. ⌜ now (numbers .exit) ≡ leaves r (numbersOf (checkFile (now (file .entry)) .note)) (now (numbers .entry)) ⌝ }
+    ensures { λ r. ⌜ now (shape .exit) ≡
+        leaves r (shapeOf (checkFile (now (file .entry)) .settings)) (now (shape .entry)) ⌝ }
+    ensures { λ r. ⌜ now (bins .exit) ≡
+        leaves r (checkFile (now (file .entry)) .settings .bins) (now (bins .entry)) ⌝ }
+    ensures { λ r. ⌜ now (kinds .exit) ≡
+        leaves r (kindsOf (checkFile (now (file .entry)) .note)) (now (kinds .entry)) ⌝ }
+    ensures { λ r. ⌜ now (numbers .exit) ≡
+        leaves r (numbersOf (checkFile (now (file .entry)) .note)) (now (numbers .entry)) ⌝ }
 {
     let answer = bale::check_file(file);
     give(answer, shape, bins, kinds, numbers)

@@ -28,7 +28,10 @@ fn column_sums(src: &[i32], columns: usize, rows: usize, j: usize, kernel: u16, 
     requires { ⌜ Kernel kernel ⌝ }
     requires { ⌜ Source 3 4096 columns rows (now src) ⌝ }
     requires { ⌜ (2 * j < rows) × (columns ≤ length (now sums)) ⌝ }
-    ensures { λ _. ⌜ now (sums .exit) ≡ splice 0 (tabulate columns (columnSum (weight kernel) (λ t. reflect (rows - 1) (2 * j + t)) (asLevel columns (now (src .entry))))) (now (sums .entry)) ⌝ }
+    ensures { λ _. ⌜ now (sums .exit) ≡
+        splice 0 (tabulate columns
+        (columnSum (weight kernel) (λ t. reflect (rows - 1) (2 * j + t)) (asLevel columns (now (src .entry)))))
+        (now (sums .entry)) ⌝ }
 {
     let w0 = taps::weight_at(kernel, 0);
     let w1 = taps::weight_at(kernel, 1);
@@ -66,10 +69,14 @@ fn reduce_node(
     w1: i32,
     w2: i32,
 ) -> i32
-    requires { ⌜ (a < length (now sums)) × (b < length (now sums)) × (c < length (now sums)) × (d < length (now sums)) × (e < length (now sums)) ⌝ }
+    requires { ⌜ (a < length (now sums)) × (b < length (now sums)) × (c < length (now sums))
+        × (d < length (now sums)) × (e < length (now sums)) ⌝ }
     requires { ⌜ (Within 12 w0) × (Within 12 w1) × (Within 12 w2) ⌝ }
     requires { ⌜ Small 8388608 (now sums) ⌝ }
-    ensures { λ r. ⌜ r ≡ roundDiv (w2 *ℤ (getD (now (sums .entry)) a (pos 0) +ℤ getD (now (sums .entry)) e (pos 0)) +ℤ w1 *ℤ (getD (now (sums .entry)) b (pos 0) +ℤ getD (now (sums .entry)) d (pos 0)) +ℤ w0 *ℤ getD (now (sums .entry)) c (pos 0)) 400 ⌝ }
+    ensures { λ r. ⌜ r ≡ roundDiv (
+        w2 *ℤ (getD (now (sums .entry)) a (pos 0) +ℤ getD (now (sums .entry)) e (pos 0))
+        +ℤ w1 *ℤ (getD (now (sums .entry)) b (pos 0) +ℤ getD (now (sums .entry)) d (pos 0))
+        +ℤ w0 *ℤ getD (now (sums .entry)) c (pos 0)) 400 ⌝ }
 {
     quantizer::round_div(
         taps::five(sums[a], sums[b], sums[c], sums[d], sums[e], w0, w1, w2),
@@ -80,9 +87,14 @@ fn reduce_node(
 // A row of the next level from `at` on, along the sums of a level whose last column is `last`.
 fn reduce_along(sums: &[i32], last: usize, kernel: u16, work: &mut [i32], at: usize)
     requires { ⌜ Kernel kernel ⌝ }
-    requires { ⌜ (2 ≤ last) × (last ≤ 128) × (last % 2 ≡ 0) × (last < length (now sums)) × (at + (last / 2 + 1) ≤ length (now work)) ⌝ }
+    requires { ⌜ (2 ≤ last) × (last ≤ 128) × (last % 2 ≡ 0) × (last < length (now sums))
+        × (at + (last / 2 + 1) ≤ length (now work)) ⌝ }
     requires { ⌜ Small 8388608 (now sums) ⌝ }
-    ensures { λ _. ⌜ now (work .exit) ≡ splice at (tabulate (last / 2 + 1) (λ i. roundDiv (sum 5 (λ t. weight kernel t *ℤ getD (now (sums .entry)) (reflect last (2 * i + t)) (pos 0))) 400)) (now (work .entry)) ⌝ }
+    ensures { λ _. ⌜ now (work .exit) ≡
+        splice at (tabulate (last / 2 + 1)
+        (λ i. roundDiv (sum 5
+        (λ t. weight kernel t *ℤ getD (now (sums .entry)) (reflect last (2 * i + t)) (pos 0))) 400))
+        (now (work .entry)) ⌝ }
 {
     let w0 = taps::weight_at(kernel, 0);
     let w1 = taps::weight_at(kernel, 1);
@@ -113,7 +125,11 @@ fn reduce_along(sums: &[i32], last: usize, kernel: u16, work: &mut [i32], at: us
 pub fn reduce_level(work: &mut [i32], from: usize, columns: usize, rows: usize, kernel: u16)
     requires { ⌜ Kernel kernel ⌝ }
     requires { ⌜ Reducible from columns rows (now work) ⌝ }
-    ensures { λ _. ⌜ now (work .exit) ≡ splice (from - halvedNodes columns rows) (raster ((columns - 1) / 2 + 1) ((rows - 1) / 2 + 1) (reduce kernel (columns - 1) (rows - 1) (asLevel columns (part from (from + rows * columns) (now (work .entry)))))) (now (work .entry)) ⌝ }
+    ensures { λ _. ⌜ now (work .exit) ≡
+        splice (from - halvedNodes columns rows)
+        (raster ((columns - 1) / 2 + 1) ((rows - 1) / 2 + 1)
+        (reduce kernel (columns - 1) (rows - 1)
+        (asLevel columns (part from (from + rows * columns) (now (work .entry)))))) (now (work .entry)) ⌝ }
 {
     let n = (columns - 1) / 2 + 1;
     let m = (rows - 1) / 2 + 1;

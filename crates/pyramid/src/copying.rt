@@ -53,11 +53,15 @@ pub fn clamp_all(s: Settings, src: &[i32], picture: &mut [u8])
 
 // The indices of a row: of its averages less what is predicted for them.
 pub fn index_row(averages: &[i32], predicted: &[i32], bin: u16, levels: &mut [i16], at: usize)
-    requires { ⌜ (length (now averages) ≤ length (now predicted)) × (at + length (now averages) ≤ length (now levels)) ⌝ }
+    requires { ⌜ (length (now averages) ≤ length (now predicted))
+        × (at + length (now averages) ≤ length (now levels)) ⌝ }
     requires { ⌜ Small 8388608 (now averages) ⌝ }
     requires { ⌜ Small 8388608 (now predicted) ⌝ }
     requires { ⌜ IndicesWithin (now averages) (now predicted) bin ⌝ }
-    ensures { λ _. ⌜ now (levels .exit) ≡ splice at (tabulate (length (now (averages .entry))) (λ i. binIndex (getD (now (averages .entry)) i (pos 0) -ℤ getD (now (predicted .entry)) i (pos 0)) bin)) (now (levels .entry)) ⌝ }
+    ensures { λ _. ⌜ now (levels .exit) ≡
+        splice at (tabulate (length (now (averages .entry)))
+        (λ i. binIndex (getD (now (averages .entry)) i (pos 0) -ℤ getD (now (predicted .entry)) i (pos 0)) bin))
+        (now (levels .entry)) ⌝ }
 {
     let factor = quantizer::reciprocal(bin);
     let mut i = 0;
@@ -69,10 +73,14 @@ pub fn index_row(averages: &[i32], predicted: &[i32], bin: u16, levels: &mut [i1
 
 // The rebuilt values of a row: its indices' values plus what is predicted for them.
 pub fn value_row(indices: &[i16], predicted: &[i32], bin: u16, work: &mut [i32], at: usize)
-    requires { ⌜ (length (now indices) ≤ length (now predicted)) × (at + length (now indices) ≤ length (now work)) ⌝ }
+    requires { ⌜ (length (now indices) ≤ length (now predicted))
+        × (at + length (now indices) ≤ length (now work)) ⌝ }
     requires { ⌜ Small 8388608 (now predicted) ⌝ }
     requires { ⌜ ValuesWithin (now indices) bin ⌝ }
-    ensures { λ _. ⌜ now (work .exit) ≡ splice at (tabulate (length (now (indices .entry))) (λ i. getD (now (indices .entry)) i (pos 0) *ℤ pos bin +ℤ getD (now (predicted .entry)) i (pos 0))) (now (work .entry)) ⌝ }
+    ensures { λ _. ⌜ now (work .exit) ≡
+        splice at (tabulate (length (now (indices .entry)))
+        (λ i. getD (now (indices .entry)) i (pos 0) *ℤ pos bin +ℤ getD (now (predicted .entry)) i (pos 0)))
+        (now (work .entry)) ⌝ }
 {
     let n = bin as i32;
     let mut i = 0;

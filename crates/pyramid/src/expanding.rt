@@ -24,10 +24,14 @@ fn weigh_rows(
     middle: i32,
     sums: &mut [i32],
 )
-    requires { ⌜ (a + columns ≤ length (now src)) × (b + columns ≤ length (now src)) × (c + columns ≤ length (now src)) × (columns ≤ length (now sums)) ⌝ }
+    requires { ⌜ (a + columns ≤ length (now src)) × (b + columns ≤ length (now src))
+        × (c + columns ≤ length (now src)) × (columns ≤ length (now sums)) ⌝ }
     requires { ⌜ (Within 12 outer) × (Within 12 middle) ⌝ }
     requires { ⌜ Small 524288 (now src) ⌝ }
-    ensures { λ _. ⌜ now (sums .exit) ≡ splice 0 (tabulate columns (λ x. outer *ℤ (getD (now (src .entry)) (a + x) (pos 0) +ℤ getD (now (src .entry)) (c + x) (pos 0)) +ℤ middle *ℤ getD (now (src .entry)) (b + x) (pos 0))) (now (sums .entry)) ⌝ }
+    ensures { λ _. ⌜ now (sums .exit) ≡ splice 0 (tabulate columns (λ x.
+        outer *ℤ (getD (now (src .entry)) (a + x) (pos 0) +ℤ getD (now (src .entry)) (c + x) (pos 0))
+        +ℤ middle *ℤ getD (now (src .entry)) (b + x) (pos 0)))
+        (now (sums .entry)) ⌝ }
 {
     let mut x = 0;
     while x < columns {
@@ -41,7 +45,10 @@ fn expand_sums(src: &[i32], columns: usize, rows: usize, j: usize, kernel: u16, 
     requires { ⌜ Kernel kernel ⌝ }
     requires { ⌜ Source 2 524288 columns rows (now src) ⌝ }
     requires { ⌜ (j ≤ 2 * (rows - 1)) × (columns ≤ length (now sums)) ⌝ }
-    ensures { λ _. ⌜ now (sums .exit) ≡ splice 0 (tabulate columns (columnSum (evenWeight kernel j) (λ t. reflect (rows - 1) (halved j t)) (asLevel columns (now (src .entry))))) (now (sums .entry)) ⌝ }
+    ensures { λ _. ⌜ now (sums .exit) ≡
+        splice 0 (tabulate columns
+        (columnSum (evenWeight kernel j) (λ t. reflect (rows - 1) (halved j t))
+        (asLevel columns (now (src .entry))))) (now (sums .entry)) ⌝ }
 {
     let half = j / 2;
     let middle = half * columns;
@@ -77,7 +84,9 @@ fn expand_node(sums: &[i32], a: usize, b: usize, c: usize, outer: i32, middle: i
     requires { ⌜ (a < length (now sums)) × (b < length (now sums)) × (c < length (now sums)) ⌝ }
     requires { ⌜ (Within 12 outer) × (Within 12 middle) ⌝ }
     requires { ⌜ Small 8388608 (now sums) ⌝ }
-    ensures { λ r. ⌜ r ≡ roundDiv (pos 4 *ℤ (outer *ℤ (getD (now (sums .entry)) a (pos 0) +ℤ getD (now (sums .entry)) c (pos 0)) +ℤ middle *ℤ getD (now (sums .entry)) b (pos 0))) 400 ⌝ }
+    ensures { λ r. ⌜ r ≡ roundDiv (pos 4 *ℤ (
+        outer *ℤ (getD (now (sums .entry)) a (pos 0) +ℤ getD (now (sums .entry)) c (pos 0))
+        +ℤ middle *ℤ getD (now (sums .entry)) b (pos 0))) 400 ⌝ }
 {
     quantizer::round_div(
         4 * taps::three(sums[a], sums[b], sums[c], outer, middle),
@@ -90,7 +99,10 @@ fn expand_along(sums: &[i32], last: usize, kernel: u16, row: &mut [i32])
     requires { ⌜ Kernel kernel ⌝ }
     requires { ⌜ (1 ≤ last) × (last < length (now sums)) × (last ≤ 128) × (2 * last + 1 ≤ length (now row)) ⌝ }
     requires { ⌜ Small 8388608 (now sums) ⌝ }
-    ensures { λ _. ⌜ now (row .exit) ≡ splice 0 (tabulate (2 * last + 1) (λ i. roundDiv (pos 4 *ℤ sum 5 (λ t. evenWeight kernel i t *ℤ getD (now (sums .entry)) (reflect last (halved i t)) (pos 0))) 400)) (now (row .entry)) ⌝ }
+    ensures { λ _. ⌜ now (row .exit) ≡ splice 0 (tabulate (2 * last + 1) (λ i.
+        roundDiv (pos 4 *ℤ sum 5 (λ t.
+        evenWeight kernel i t *ℤ getD (now (sums .entry)) (reflect last (halved i t)) (pos 0))) 400))
+        (now (row .entry)) ⌝ }
 {
     let w0 = taps::weight_at(kernel, 0);
     let w1 = taps::weight_at(kernel, 1);
@@ -111,7 +123,10 @@ pub fn expand_row(src: &[i32], columns: usize, rows: usize, j: usize, kernel: u1
     requires { ⌜ Kernel kernel ⌝ }
     requires { ⌜ Source 2 524288 columns rows (now src) ⌝ }
     requires { ⌜ (j ≤ 2 * (rows - 1)) × (2 * (columns - 1) + 1 ≤ length (now row)) × (columns ≤ 65) ⌝ }
-    ensures { λ _. ⌜ now (row .exit) ≡ splice 0 (tabulate (2 * (columns - 1) + 1) (λ i. expand kernel (columns - 1) (rows - 1) (asLevel columns (now (src .entry))) i j)) (now (row .entry)) ⌝ }
+    ensures { λ _. ⌜ now (row .exit) ≡
+        splice 0 (tabulate (2 * (columns - 1) + 1)
+        (λ i. expand kernel (columns - 1) (rows - 1) (asLevel columns (now (src .entry))) i j))
+        (now (row .entry)) ⌝ }
 {
     let mut sums: [i32; 65] = [0; 65];
     expand_sums(src, columns, rows, j, kernel, &mut sums);

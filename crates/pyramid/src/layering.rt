@@ -26,7 +26,9 @@ fn average_level(s: Settings, l: u16, work: &mut [i32])
     requires { ⌜ Lawful s ⌝ }
     requires { ⌜ (l < s .depth) × (total s ≤ length (now work)) ⌝ }
     requires { ⌜ LevelSmall s l 4096 (now work) ⌝ }
-    ensures { λ _. ⌜ now (work .exit) ≡ splice (start s (suc l)) (levelRaster s (λ _. reduced s l (readLevels s (now (work .entry)) l)) (suc l)) (now (work .entry)) ⌝ }
+    ensures { λ _. ⌜ now (work .exit) ≡
+        splice (start s (suc l)) (levelRaster s (λ _. reduced s l (readLevels s (now (work .entry)) l)) (suc l))
+        (now (work .entry)) ⌝ }
 {
     let from = counting::start_of(s, l);
     let columns = counting::columns_at(s, l);
@@ -39,7 +41,8 @@ pub fn average_levels(s: Settings, work: &mut [i32])
     requires { ⌜ Lawful s ⌝ }
     requires { ⌜ total s ≤ length (now work) ⌝ }
     requires { ⌜ CodingRanges s (readLevels s (now work) 0) ⌝ }
-    ensures { λ _. ⌜ now (work .exit) ≡ splice 0 (allLevels s (average s (readLevels s (now (work .entry)) 0))) (now (work .entry)) ⌝ }
+    ensures { λ _. ⌜ now (work .exit) ≡
+        splice 0 (allLevels s (average s (readLevels s (now (work .entry)) 0))) (now (work .entry)) ⌝ }
 {
     let mut l: u16 = 0;
     while l < s.depth {
@@ -62,9 +65,12 @@ fn zero_row(row: &mut [i32], n: usize)
 // What row j of level l, which starts at `from`, is predicted to be: EXPAND of the level above it, or 0 at the top.
 fn predict_row(s: Settings, l: u16, from: usize, j: usize, work: &[i32], row: &mut [i32])
     requires { ⌜ Lawful s ⌝ }
-    requires { ⌜ (l ≤ s .depth) × (j < rowsAt s l) × (total s ≤ length (now work)) × (columnsAt s l ≤ length (now row)) × (from ≡ start s l) ⌝ }
+    requires { ⌜ (l ≤ s .depth) × (j < rowsAt s l) × (total s ≤ length (now work))
+        × (columnsAt s l ≤ length (now row)) × (from ≡ start s l) ⌝ }
     requires { ⌜ LevelSmall s (suc l) 524288 (now work) ⌝ }
-    ensures { λ _. ⌜ now (row .exit) ≡ splice 0 (tabulate (columnsAt s l) (λ i. predicted s (s .depth - l) l (readLevels s (now (work .entry))) i j)) (now (row .entry)) ⌝ }
+    ensures { λ _. ⌜ now (row .exit) ≡
+        splice 0 (tabulate (columnsAt s l)
+        (λ i. predicted s (s .depth - l) l (readLevels s (now (work .entry))) i j)) (now (row .entry)) ⌝ }
 {
     if l == s.depth {
         zero_row(row, counting::columns_at(s, l));
@@ -80,7 +86,9 @@ fn predict_row(s: Settings, l: u16, from: usize, j: usize, work: &[i32], row: &m
 fn index_level(s: Settings, l: u16, work: &[i32], levels: &mut [i16])
     requires { ⌜ Lawful s ⌝ }
     requires { ⌜ IndexLevel s l (now work) (now levels) ⌝ }
-    ensures { λ _. ⌜ now (levels .exit) ≡ splice (start s l) (levelRaster s (indexAt s (readLevels s (now (work .entry)))) l) (now (levels .entry)) ⌝ }
+    ensures { λ _. ⌜ now (levels .exit) ≡
+        splice (start s l) (levelRaster s (indexAt s (readLevels s (now (work .entry)))) l)
+        (now (levels .entry)) ⌝ }
 {
     let bins = s.bins;
     let bin = bins[l as usize];
@@ -117,7 +125,10 @@ pub fn index_levels(s: Settings, work: &[i32], levels: &mut [i16])
 fn value_level(s: Settings, l: u16, levels: &[i16], work: &mut [i32])
     requires { ⌜ Lawful s ⌝ }
     requires { ⌜ ValueLevel s l (now levels) (now work) ⌝ }
-    ensures { λ _. ⌜ now (work .exit) ≡ splice (start s l) (levelRaster s (valueAt s (readLevels s (now (levels .entry))) (readLevels s (now (work .entry)))) l) (now (work .entry)) ⌝ }
+    ensures { λ _. ⌜ now (work .exit) ≡
+        splice (start s l)
+        (levelRaster s (valueAt s (readLevels s (now (levels .entry))) (readLevels s (now (work .entry)))) l)
+        (now (work .entry)) ⌝ }
 {
     let bins = s.bins;
     let bin = bins[l as usize];
@@ -141,7 +152,8 @@ pub fn value_levels(s: Settings, levels: &[i16], work: &mut [i32])
     requires { ⌜ Lawful s ⌝ }
     requires { ⌜ (length (now levels) ≡ total s) × (total s ≤ length (now work)) ⌝ }
     requires { ⌜ RebuildingRanges s (readLevels s (now levels)) ⌝ }
-    ensures { λ _. ⌜ now (work .exit) ≡ splice 0 (allLevels s (rebuilt s (readLevels s (now (levels .entry))))) (now (work .entry)) ⌝ }
+    ensures { λ _. ⌜ now (work .exit) ≡
+        splice 0 (allLevels s (rebuilt s (readLevels s (now (levels .entry))))) (now (work .entry)) ⌝ }
 {
     let mut l = s.depth;
     value_level(s, l, levels, work);
@@ -155,7 +167,9 @@ pub fn value_levels(s: Settings, levels: &[i16], work: &mut [i32])
 fn level_ok(s: Settings, l: u16, levels: &[i16]) -> bool
     requires { ⌜ Lawful s ⌝ }
     requires { ⌜ (l ≤ s .depth) × (length (now levels) ≡ total s) ⌝ }
-    ensures { λ r. ⌜ r ≡ all (λ v. leb (natAbs v) limit) (levelRaster s (λ l i j. valueOf s l (readLevels s (now (levels .entry)) l i j)) l) ⌝ }
+    ensures { λ r. ⌜ r ≡
+        all (λ v. leb (natAbs v) limit)
+        (levelRaster s (λ l i j. valueOf s l (readLevels s (now (levels .entry)) l i j)) l) ⌝ }
 {
     let bins = s.bins;
     let bin = bins[l as usize];

@@ -205,8 +205,10 @@ fn call_refusal(s: Settings, picture: usize, levels: usize, work: usize) -> u16
 // Codes a picture: its indices in the level buffer, its averages in the work buffer. Refused: 1, 2, 3, 5, 6, 7.
 pub fn coding(s: Settings, picture: &[u8], levels: &mut [i16], work: &mut [i32]) -> u16
     ensures { λ r. ⌜ r ≡ coding s (now (picture .entry)) (now (levels .entry)) (now (work .entry)) .answer ⌝ }
-    ensures { λ _. ⌜ now (levels .exit) ≡ coding s (now (picture .entry)) (now (levels .entry)) (now (work .entry)) .levels ⌝ }
-    ensures { λ _. ⌜ now (work .exit) ≡ coding s (now (picture .entry)) (now (levels .entry)) (now (work .entry)) .work ⌝ }
+    ensures { λ _. ⌜ now (levels .exit) ≡
+        coding s (now (picture .entry)) (now (levels .entry)) (now (work .entry)) .levels ⌝ }
+    ensures { λ _. ⌜ now (work .exit) ≡
+        coding s (now (picture .entry)) (now (levels .entry)) (now (work .entry)) .work ⌝ }
 {
     let refusal = call_refusal(s, picture.len(), levels.len(), work.len());
     if refusal != 0 {
@@ -219,7 +221,8 @@ pub fn coding(s: Settings, picture: &[u8], levels: &mut [i16], work: &mut [i32])
 fn code(s: Settings, picture: &[u8], levels: &mut [i16], work: &mut [i32])
     requires { ⌜ Accepted s (now picture) (now levels) (now work) ⌝ }
     ensures { λ _. ⌜ now (levels .exit) ≡ allLevels s (index s (pixels (s .columns) (now (picture .entry)))) ⌝ }
-    ensures { λ _. ⌜ now (work .exit) ≡ inWork s (average s (pixels (s .columns) (now (picture .entry)))) (now (work .entry)) ⌝ }
+    ensures { λ _. ⌜ now (work .exit) ≡
+        inWork s (average s (pixels (s .columns) (now (picture .entry)))) (now (work .entry)) ⌝ }
 {
     let from = counting::start_of(s, 0);
     copying::load(picture, work, from);
@@ -229,9 +232,12 @@ fn code(s: Settings, picture: &[u8], levels: &mut [i16], work: &mut [i32])
 
 // Rebuilds a picture from its level buffer: the unclamped values in the work buffer, the clamped ones in the picture. Refused: 1, 2, 3, 5, 6, 7, 11.
 pub fn rebuilding(s: Settings, levels: &[i16], picture: &mut [u8], work: &mut [i32]) -> u16
-    ensures { λ r. ⌜ r ≡ rebuilding s (now (levels .entry)) (now (picture .entry)) (now (work .entry)) .answer ⌝ }
-    ensures { λ _. ⌜ now (picture .exit) ≡ rebuilding s (now (levels .entry)) (now (picture .entry)) (now (work .entry)) .picture ⌝ }
-    ensures { λ _. ⌜ now (work .exit) ≡ rebuilding s (now (levels .entry)) (now (picture .entry)) (now (work .entry)) .work ⌝ }
+    ensures { λ r. ⌜ r ≡
+        rebuilding s (now (levels .entry)) (now (picture .entry)) (now (work .entry)) .answer ⌝ }
+    ensures { λ _. ⌜ now (picture .exit) ≡
+        rebuilding s (now (levels .entry)) (now (picture .entry)) (now (work .entry)) .picture ⌝ }
+    ensures { λ _. ⌜ now (work .exit) ≡
+        rebuilding s (now (levels .entry)) (now (picture .entry)) (now (work .entry)) .work ⌝ }
 {
     let refusal = call_refusal(s, picture.len(), levels.len(), work.len());
     if refusal != 0 {
@@ -247,8 +253,11 @@ pub fn rebuilding(s: Settings, levels: &[i16], picture: &mut [u8], work: &mut [i
 fn rebuild(s: Settings, levels: &[i16], picture: &mut [u8], work: &mut [i32])
     requires { ⌜ Accepted s (now picture) (now levels) (now work) ⌝ }
     requires { ⌜ T (valuesOk s (now levels)) ⌝ }
-    ensures { λ _. ⌜ now (picture .exit) ≡ raster (s .columns) (s .rows) (λ i j. clamp s (rebuilt s (readLevels s (now (levels .entry))) 0 i j)) ⌝ }
-    ensures { λ _. ⌜ now (work .exit) ≡ inWork s (rebuilt s (readLevels s (now (levels .entry)))) (now (work .entry)) ⌝ }
+    ensures { λ _. ⌜ now (picture .exit) ≡
+        raster (s .columns) (s .rows)
+        (λ i j. clamp s (rebuilt s (readLevels s (now (levels .entry))) 0 i j)) ⌝ }
+    ensures { λ _. ⌜ now (work .exit) ≡
+        inWork s (rebuilt s (readLevels s (now (levels .entry)))) (now (work .entry)) ⌝ }
 {
     layering::value_levels(s, levels, work);
     let from = counting::start_of(s, 0);

@@ -37,7 +37,8 @@ pub fn reflected(z: usize, p: usize) -> usize
 // The sum of five values, with weights for distance 0, 1, 2 from the one in the middle.
 pub fn five(a: i32, b: i32, c: i32, d: i32, e: i32, w0: i32, w1: i32, w2: i32) -> i32
     requires { ⌜ (Within 12 w0) × (Within 12 w1) × (Within 12 w2) ⌝ }
-    requires { ⌜ (Within 8388608 a) × (Within 8388608 b) × (Within 8388608 c) × (Within 8388608 d) × (Within 8388608 e) ⌝ }
+    requires { ⌜ (Within 8388608 a) × (Within 8388608 b) × (Within 8388608 c) × (Within 8388608 d)
+        × (Within 8388608 e) ⌝ }
     ensures { λ r. ⌜ r ≡ w2 *ℤ (a +ℤ e) +ℤ w1 *ℤ (b +ℤ d) +ℤ w0 *ℤ c ⌝ }
 {
     w2 * (a + e) + w1 * (b + d) + w0 * c

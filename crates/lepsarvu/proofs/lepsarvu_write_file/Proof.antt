@@ -21,7 +21,7 @@ returns : tie.Need-returns
 returns c =
     let m = c .before in
     let r = m .before .before .before in
-    coded-stops _ _ _ _ (m .before .before .coded-reading .ensures) (m .before .coded-reading2 .ensures) (rw (r .settings .ensures) at (m .note-refusal .ensures)) (c .if1 .taken) _
+    coded-stops _ _ _ _ _ _ _ (m .before .before .coded-reading .ensures) (m .before .coded-reading2 .ensures) (rw (r .settings .ensures) at (m .note-refusal .ensures)) (c .if1 .taken) _
 
 write-file-requires : tie.Need-write-file-requires
 write-file-requires c κs = search needs
@@ -43,7 +43,7 @@ returns-2 c =
     let e = rw (r .settings .ensures) at (m .note-refusal .ensures) in
     let f = rw (r .settings .ensures) at (w .write-file .ensures) in
     let g = c .give-size .ensures in
-    handed _ _ _ _ drier press e (else .if1 .left) (coded-note _ drier press) (f .0) (f .1) (g .0) _ (g .1)
+    handed _ _ _ _ _ _ _ drier press e (else .if1 .left) (coded-note _ _ _ _ drier press) (f .0) (f .1) (g .0) _ (g .1)
 
 pub lepsarvu-write-file-spec : {M : Type 1} → statement M
 lepsarvu-write-file-spec =

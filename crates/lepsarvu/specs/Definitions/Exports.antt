@@ -29,29 +29,23 @@ numbersOf note = codeOf (note .«before_drier») .number ∷ codeOf (note .«at_
 -- ---- what the writer is handed
 
 -- a kind and a number for each reading
-pub record Coded : Type 0 where
-  pub drierKind : ℕ
-  pub drierNumber : ℕ
-  pub pressKind : ℕ
-  pub pressNumber : ℕ
+unfoldable pub noteOf : (drierKind drierNumber pressKind pressNumber : ℕ) → Note
+noteOf drierKind drierNumber pressKind pressNumber =
+    record { «before_drier» = decode drierKind drierNumber .reading; «at_press» = decode pressKind pressNumber .reading }
 
-unfoldable pub noteOf : Coded → Note
-noteOf c =
-    record { «before_drier» = decode (c .drierKind) (c .drierNumber) .reading; «at_press» = decode (c .pressKind) (c .pressNumber) .reading }
-
-module _ (s : Settings) (c : Coded) where
+module _ (s : Settings) (drierKind drierNumber pressKind pressNumber : ℕ) where
   -- the writer's numbers in its order: a kind and a number that stand for no reading are 4
   unfoldable pub codedRefusal : List ℤ → ℕ → ℕ
   codedRefusal levels room =
       first (settingsRefusal s
-      ∷ decode (c .drierKind) (c .drierNumber) .refusal
-      ∷ decode (c .pressKind) (c .pressNumber) .refusal
-      ∷ writeRefusal s (noteOf c) levels room
+      ∷ decode drierKind drierNumber .refusal
+      ∷ decode pressKind pressNumber .refusal
+      ∷ writeRefusal s (noteOf drierKind drierNumber pressKind pressNumber) levels room
       ∷ [])
 
   -- the file buffer afterwards
   unfoldable pub codedFile : List ℤ → List ℕ → List ℕ
-  codedFile levels file = leaves (codedRefusal levels (length file)) (writeFile s (noteOf c) levels file .file) file
+  codedFile levels file = leaves (codedRefusal levels (length file)) (writeFile s (noteOf drierKind drierNumber pressKind pressNumber) levels file .file) file
 
   -- the lent size afterwards
   unfoldable pub codedSize : List ℤ → ℕ → ℕ → ℕ

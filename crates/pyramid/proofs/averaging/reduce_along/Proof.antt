@@ -28,9 +28,13 @@ node k sums last i = roundDiv (sum 5 (λ t. weight k t *ℤ getD sums (reflect l
 
 -- where its taps lie: those of the first node, of an inner one, and of the last
 first-taps : (last : ℕ) → 2 ≤ last → (2 ≡ reflect last (2 * 0 + 0)) × (1 ≡ reflect last (2 * 0 + 1)) × (0 ≡ reflect last (2 * 0 + 2)) × (1 ≡ reflect last (2 * 0 + 3)) × (2 ≡ reflect last (2 * 0 + 4))
-first-taps last h =
-    (sym (reflect-before last 0 (omega arith) (omega arith)), sym (reflect-before last 1 (omega arith) (omega arith)), sym (reflect-inside last 2 (omega arith) (omega arith)),
-    sym (reflect-inside last 3 (omega arith) (omega arith)), sym (reflect-inside last 4 (omega arith) (omega arith)))
+first-taps last h = (
+  sym (reflect-before last 0 (omega arith) (omega arith)),
+  sym (reflect-before last 1 (omega arith) (omega arith)),
+  sym (reflect-inside last 2 (omega arith) (omega arith)),
+  sym (reflect-inside last 3 (omega arith) (omega arith)),
+  sym (reflect-inside last 4 (omega arith) (omega arith)),
+)
 
 inner-tap : (last i t : ℕ) → i < last / 2 - 1 → t < 5 → 2 * i + t ≡ reflect last (2 * (1 + i) + t)
 inner-tap last i t h k = omega (arith, reflect-inside last (2 * (1 + i) + t) (omega arith) (omega arith))
@@ -43,10 +47,13 @@ abbrev μ-loop : tie.MeasureT-loop
 
 last-taps : (last i : ℕ) → 2 ≤ last → last % 2 ≡ 0 → i ≡ last / 2 - 1 → (last - 2 ≡ reflect last (2 * (1 + i) + 0)) × (last - 1 ≡ reflect last (2 * (1 + i) + 1))
     × (last ≡ reflect last (2 * (1 + i) + 2)) × (last - 1 ≡ reflect last (2 * (1 + i) + 3)) × (last - 2 ≡ reflect last (2 * (1 + i) + 4))
-last-taps last i h even e =
-    (omega (arith, reflect-inside last (2 * (1 + i) + 0) (omega arith) (omega arith)), omega (arith, reflect-inside last (2 * (1 + i) + 1) (omega arith) (omega arith)),
-    omega (arith, reflect-inside last (2 * (1 + i) + 2) (omega arith) (omega arith)), omega (arith, reflect-past last (2 * (1 + i) + 3) (omega arith) (omega arith)),
-    omega (arith, reflect-past last (2 * (1 + i) + 4) (omega arith) (omega arith)))
+last-taps last i h even e = (
+  omega (arith, reflect-inside last (2 * (1 + i) + 0) (omega arith) (omega arith)),
+  omega (arith, reflect-inside last (2 * (1 + i) + 1) (omega arith) (omega arith)),
+  omega (arith, reflect-inside last (2 * (1 + i) + 2) (omega arith) (omega arith)),
+  omega (arith, reflect-past last (2 * (1 + i) + 3) (omega arith) (omega arith)),
+  omega (arith, reflect-past last (2 * (1 + i) + 4) (omega arith) (omega arith)),
+)
 
 -- what is known once the weights are there
 module _ (w : tie.After-weight-at3 Inv-loop μ-loop) where
