@@ -9,6 +9,7 @@ pub mod Within
 pub mod Refusals
 pub mod Buffers
 pub mod Ranges
+pub mod PictureRanges
 pub mod Accuracy
 pub mod CodedLevels
 pub mod Depth

@@ -6,7 +6,8 @@ ghost use lib.IntN.{pos, natAbs, _+ℤ_};
 ghost use Rattle.quantizer.specs.Definitions.Rounding.{roundDiv};
 ghost use Rattle.quantizer.specs.Definitions.Bins.{binIndex};
 ghost use Rattle.quantizer.specs.Inner.Division.{Floor};
-ghost use Rattle.quantizer.specs.Definitions.Reciprocals.{reciprocal, Reciprocal};
+ghost use Rattle.quantizer.specs.Definitions.Reciprocals.{reciprocal};
+ghost use Rattle.quantizer.specs.Inner.Factors.{Reciprocal};
 
 // The largest whole number not above (x + h) / d. 2^31 divisors are added, so that what is divided is not negative, and taken off again.
 fn divide(x: i32, h: u16, d: u16) -> i32

@@ -16,12 +16,12 @@ unfoldable pub leaves : {A : Type 0} → ℕ → A → A → A
 leaves zero new old = new
 leaves (suc number) new old = old
 
-pub record Coded : Type 0 where
+pub record CodingOutcome : Type 0 where
   pub answer : ℕ
   pub levels : List ℤ
   pub work : List ℤ
 
-pub record Rebuilt : Type 0 where
+pub record RebuildingOutcome : Type 0 where
   pub answer : ℕ
   pub picture : List ℕ
   pub work : List ℤ
@@ -32,7 +32,7 @@ module _ (s : Settings) where
   inWork f work = allLevels s f ++ drop (total s) work
 
   -- coding of a picture, lent a level buffer and a work buffer
-  unfoldable pub coding : List ℕ → List ℤ → List ℤ → Coded
+  unfoldable pub coding : List ℕ → List ℤ → List ℤ → CodingOutcome
   coding picture levels work =
       let answer = codingRefusal s picture levels work in
       let p = pixels (s .columns) picture in
@@ -43,7 +43,7 @@ module _ (s : Settings) where
       }
 
   -- rebuilding from a level buffer, lent a picture and a work buffer
-  unfoldable pub rebuilding : List ℤ → List ℕ → List ℤ → Rebuilt
+  unfoldable pub rebuilding : List ℤ → List ℕ → List ℤ → RebuildingOutcome
   rebuilding levels picture work =
       let answer = rebuildingRefusal s levels picture work in
       let r = rebuilt s (readLevels s levels) in

@@ -6,7 +6,7 @@ use lib.IntN.{ℤ}
 use Rattle.pyramid.specs.declared.Settings.{Settings}
 use Rattle.pyramid.specs.Definitions.Bound.{boundAt}
 use Rattle.pyramid.specs.Definitions.Refusals.{first}
-use Rattle.pyramid.specs.Definitions.Calls.{leaves, Coded, Rebuilt, coding, rebuilding}
+use Rattle.pyramid.specs.Definitions.Calls.{leaves, CodingOutcome, RebuildingOutcome, coding, rebuilding}
 
 -- The settings of both calls, lawful or not, and the buffers, of any length and contents: those lent to the coding, then those lent to the
 -- rebuilding. `target` is the picture at hand where the rebuilding goes into the same picture buffer
@@ -18,10 +18,10 @@ pub record Generation : Type 0 where
   pub targetWork : List ℤ
 
 module _ (picture : List ℕ) (g : Generation) where
-  abbrev pub coded : Coded
+  abbrev pub coded : CodingOutcome
   coded = coding (g .settings) picture (g .levels) (g .work)
 
-  abbrev pub rebuiltFrom : Rebuilt
+  abbrev pub rebuiltFrom : RebuildingOutcome
   rebuiltFrom = rebuilding (g .settings) (coded .levels) (g .target) (g .targetWork)
 
   -- 0 where both calls are accepted, else the refusal: the coding's, after which nothing is rebuilt, or the rebuilding's
