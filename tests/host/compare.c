@@ -33,19 +33,6 @@ static void all_sizes(struct run *run)
             compare_deepest(run, columns, rows);
 }
 
-/* Every answer that the header lists for a function must have been given. */
-static void demand_answers(struct tally *it)
-{
-    static const uint16_t LISTED[FUNCTIONS] = {0x0EF, 0x8EF, 0x00F, 0x003, 0x00F, 0x00F, 0x95F, 0x1E5F, 0x1E1F};
-    for (int function = 0; function < FUNCTIONS; function++)
-        for (int answer = 0; answer < ANSWERS; answer++)
-            if ((it->answers[function][answer] != 0) != (LISTED[function] >> answer & 1)) {
-                fprintf(stderr, "%s: answer %d was given %" PRIu64 " times\n", FUNCTION_NAMES[function], answer,
-                        it->answers[function][answer]);
-                it->failed++;
-            }
-}
-
 int main(int words, char **word)
 {
     static struct run run;

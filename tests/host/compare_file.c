@@ -72,16 +72,6 @@ static void compare_read(struct run *run, struct lent *file, size_t indices)
     count(&run->tally, READ_FILE, answers[0], passed);
 }
 
-/* The nodes of the shape that the file's first bytes hold, if it is lawful. */
-static size_t shape_nodes(const uint8_t *file, size_t length)
-{
-    uint16_t item[4] = {0, 0, 0, 0};
-    for (int at = 0; length >= 10 && at < 4; at++)
-        item[at] = (uint16_t)(file[2 + 2 * at] | file[3 + 2 * at] << 8);
-    struct settings s = {item[0], item[1], item[2], item[3], {0}};
-    return nodes_of(&s);
-}
-
 void compare_reading(struct run *run)
 {
     static uint8_t drawn[MOST_DRAWN_FILE];

@@ -97,3 +97,12 @@ size_t draw_file(struct seeded *draw, uint32_t most_side, uint8_t file[MOST_DRAW
         return length;
     }
 }
+
+size_t shape_nodes(const uint8_t *file, size_t length)
+{
+    uint16_t item[4] = {0, 0, 0, 0};
+    for (int at = 0; length >= 10 && at < 4; at++)
+        item[at] = (uint16_t)(file[2 + 2 * at] | file[3 + 2 * at] << 8);
+    struct settings s = {item[0], item[1], item[2], item[3], {0}};
+    return nodes_of(&s);
+}

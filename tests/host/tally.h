@@ -59,6 +59,19 @@ static inline void print_answers(const struct tally *it)
     }
 }
 
+/* Every answer that the header lists for a function must have been given. */
+static inline void demand_answers(struct tally *it)
+{
+    static const uint16_t LISTED[FUNCTIONS] = {0x0EF, 0x8EF, 0x00F, 0x003, 0x00F, 0x00F, 0x95F, 0x1E5F, 0x1E1F};
+    for (int function = 0; function < FUNCTIONS; function++)
+        for (int answer = 0; answer < ANSWERS; answer++)
+            if ((it->answers[function][answer] != 0) != (LISTED[function] >> answer & 1)) {
+                fprintf(stderr, "%s: answer %d was given %" PRIu64 " times\n", FUNCTION_NAMES[function], answer,
+                        it->answers[function][answer]);
+                it->failed++;
+            }
+}
+
 /* The last line, and the program's exit status. */
 static inline int finish(const struct tally *it)
 {
