@@ -17,7 +17,7 @@ use Rattle.pyramid.proofs.Sizes.{nodesTo-zero, nodesTo-suc, total-is}
 use Rattle.bale.specs.declared.Note.{Note}
 use Rattle.bale.specs.Definitions.Words.{u16At}
 use Rattle.bale.specs.Definitions.Readings.{noteOk}
-use Rattle.bale.specs.Definitions.Files.{fileSize}
+use Rattle.bale.specs.Definitions.Files.{fileLength}
 use Rattle.bale.specs.Definitions.Reader.{levelsPlace, settingsIn, levelsFrom, levelsIn, shapeSectionRefusal, levelSectionsRefusal, bodyRefusal}
 use Rattle.bale.specs.Definitions.Calls.{writeRefusal, readRefusal}
 use Rattle.bale.proofs.Sections.{eqb-of}
@@ -30,7 +30,7 @@ pub record AcceptedWriting (s : Settings) (note : Note) (levels : List ℤ) (roo
   pub law : Lawful s
   pub noted : T (noteOk note)
   pub long : length levels ≡ total s
-  pub fits : fileSize s ≤ room
+  pub fits : fileLength s ≤ room
   pub valued : T (valuesOk s levels)
 
 pub accepted-writing : (s : Settings) (note : Note) (levels : List ℤ) (room : ℕ) → writeRefusal s note levels room ≡ 0 → AcceptedWriting s note levels room
@@ -46,18 +46,18 @@ accepted-writing s note levels room e =
       law = accepted-settings s settings;
       noted = unless-none (noteOk note) 3 four;
       long = eqb→eq _ _ (unless-none (eqb (length levels) (total s)) 5 six);
-      fits = leb→le _ _ (unless-none (leb (fileSize s) room) 7 eight);
+      fits = leb→le _ _ (unless-none (leb (fileLength s) room) 7 eight);
       valued = unless-none (valuesOk s levels) 10 eleven;
     }
 
 pub writing-accepted : (s : Settings) (note : Note) (levels : List ℤ) (room : ℕ) → settingsRefusal s ≡ 0 → T (noteOk note) → length levels ≡ total s
-    → fileSize s ≤ room → T (valuesOk s levels) → writeRefusal s note levels room ≡ 0
+    → fileLength s ≤ room → T (valuesOk s levels) → writeRefusal s note levels room ≡ 0
 unfolding writeRefusal
 writing-accepted s note levels room settings noted long fits valued =
     first-pass _ settings
     (first-pass _ (unless-holds (noteOk note) 4 noted)
     (first-pass _ (unless-holds (eqb (length levels) (total s)) 6 (eqb-of long))
-    (first-pass _ (unless-holds (leb (fileSize s) room) 8 (le→leb (fileSize s) room fits))
+    (first-pass _ (unless-holds (leb (fileLength s) room) 8 (le→leb (fileLength s) room fits))
     (first-pass _ (unless-holds (valuesOk s levels) 11 valued) first-nil))))
 
 -- ---- the reader

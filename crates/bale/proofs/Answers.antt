@@ -10,7 +10,7 @@ use Rattle.bale.specs.declared.Note.{Note}
 use Rattle.bale.specs.declared.FileSize.{FileSize}
 use Rattle.bale.specs.declared.Bale.{Bale}
 use Rattle.bale.specs.Definitions.Words.{u16At}
-use Rattle.bale.specs.Definitions.Files.{fileOf, fileSize}
+use Rattle.bale.specs.Definitions.Files.{fileOf, fileLength}
 use Rattle.bale.specs.Definitions.Reader.{settingsIn, noteIn, levelsIn}
 use Rattle.bale.specs.Definitions.Calls.{sizeAnswer, writeRefusal, writeFile, noSettings, noNote, baleOf, readRefusal, readFile}
 use Rattle.bale.proofs.AcceptedFiles.{accepted-writing}
@@ -24,16 +24,16 @@ module _ (s : Settings) (note : Note) (levels : List ℤ) (file : List ℕ) wher
   writing-refusal = refl
 
   pub writing-is : writeRefusal s note levels (length file) ≡ 0
-      → writeFile s note levels file ≡ record { answer = record { refusal = 0; size = fileSize s }; file = fileOf s note levels ++ drop (fileSize s) file }
+      → writeFile s note levels file ≡ record { answer = record { refusal = 0; size = fileLength s }; file = fileOf s note levels ++ drop (fileLength s) file }
   unfolding writeFile
-  writing-is e = rw (e, leaves-new 0 (fileSize s) 0 refl, leaves-new 0 (fileOf s note levels ++ drop (fileSize s) file) file refl)
+  writing-is e = rw (e, leaves-new 0 (fileLength s) 0 refl, leaves-new 0 (fileOf s note levels ++ drop (fileLength s) file) file refl)
 
 module _ (s : Settings) (note : Note) (levels : List ℤ) (file : List ℕ) {refusal : ℕ} (e : refusal ≡ writeRefusal s note levels (length file)) where
   pub writing-refused : (refusal ≡ 0 → ⊥) → (record { refusal = refusal; size = 0 } ≡ writeFile s note levels file .answer) × (file ≡ writeFile s note levels file .file)
   unfolding writeFile
   writing-refused refused = (rw (← e, leaves-kept _ _ _ refused), rw (← e) (sym (leaves-kept _ _ _ refused)))
 
-  pub writing-done : {size : FileSize} {new : List ℕ} → refusal ≡ 0 → size ≡ sizeAnswer s → new ≡ fileOf s note levels ++ drop (fileSize s) file
+  pub writing-done : {size : FileSize} {new : List ℕ} → refusal ≡ 0 → size ≡ sizeAnswer s → new ≡ fileOf s note levels ++ drop (fileLength s) file
       → (size ≡ writeFile s note levels file .answer) × (new ≡ writeFile s note levels file .file)
   writing-done none p q =
       let z : writeRefusal s note levels (length file) ≡ 0 = sym e ∙ none in

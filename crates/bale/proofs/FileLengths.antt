@@ -10,7 +10,7 @@ use Rattle.pyramid.specs.Definitions.Sizes.{total}
 use Rattle.pyramid.proofs.Sizes.{total-is}
 use Rattle.bale.specs.declared.Note.{Note}
 use Rattle.bale.specs.Definitions.Words.{le16, le32}
-use Rattle.bale.specs.Definitions.Files.{shapeSection, binsFrom, binsSection, readingsSection, levelSections, fileOf, fileSize}
+use Rattle.bale.specs.Definitions.Files.{shapeSection, binsFrom, binsSection, readingsSection, levelSections, fileOf, fileLength}
 use Rattle.bale.proofs.Sections.{length-numbers}
 use Rattle.bale.proofs.LevelTrips.{length-levels}
 
@@ -32,8 +32,8 @@ module _ (s : Settings) where
   unfolding binsSection
   length-bins = length-numbers (binsFrom s (s .depth)) ∙ omega (arith, length-binsFrom (s .depth))
 
-  pub length-file : (note : Note) (levels : List ℤ) → length levels ≡ total s → length (fileOf s note levels) ≡ fileSize s
-  unfolding fileOf fileSize
+  pub length-file : (note : Note) (levels : List ℤ) → length levels ≡ total s → length (fileOf s note levels) ≡ fileLength s
+  unfolding fileOf fileLength
   length-file note levels e =
       let l = length-levels s (s .depth) levels (e ∙ total-is s) in
       let a = length-append (readingsSection note) (levelSections s (s .depth) levels) in

@@ -23,7 +23,7 @@ use Rattle.bale.specs.declared.Note.{Note}
 use Rattle.bale.specs.Definitions.Words.{le16, le32, words, indexWord, wordIndex, u16At, wordsAt, indicesAt}
 use Rattle.bale.specs.Definitions.Readings.{readingBytes}
 use Rattle.bale.specs.Definitions.Sections.{numbersSection}
-use Rattle.bale.specs.Definitions.Files.{shapeSection, binsFrom, binsSection, readingsSection, levelSection, levelSections, fileOf, fileSize}
+use Rattle.bale.specs.Definitions.Files.{shapeSection, binsFrom, binsSection, readingsSection, levelSection, levelSections, fileOf, fileLength}
 use Rattle.bale.specs.Definitions.Reader.{binsPlace, readingsPlace, levelsPlace, levelsFrom}
 use Rattle.bale.proofs.WordLaws.{word-bits}
 use Rattle.bale.proofs.WordLists.{length-words, words-append, length-wordsAt, getD-wordsAt}
@@ -150,9 +150,9 @@ module _ (s : Settings) (l from at : ℕ) {k : ℕ} (ms : List ℤ) (file : List
 
 -- ---- the file
 
-pub file-next : (s : Settings) (note : Note) (levels : List ℤ) (l : List ℕ) {a b c d : List ℕ} → length levels ≡ total s → fileSize s ≤ length l
+pub file-next : (s : Settings) (note : Note) (levels : List ℤ) (l : List ℕ) {a b c d : List ℕ} → length levels ≡ total s → fileLength s ≤ length l
     → a ≡ splice 0 (shapeSection s) l → b ≡ splice binsPlace (binsSection s) a → c ≡ splice (readingsPlace (s .depth)) (readingsSection note) b
-    → d ≡ splice (levelsPlace (s .depth)) (levelSections s (s .depth) levels) c → d ≡ fileOf s note levels ++ drop (fileSize s) l
+    → d ≡ splice (levelsPlace (s .depth)) (levelSections s (s .depth) levels) c → d ≡ fileOf s note levels ++ drop (fileLength s) l
 file-next s note levels l long room p q r t =
     let shape = shapeSection s in
     let bins = binsSection s in
@@ -163,7 +163,7 @@ file-next s note levels l long room p q r t =
     let g = length-readings note in
     let m = length-append shape bins in
     let n = length-append (shape ++ bins) readings in
-    let k : 24 + 4 * (s .depth + 1) ≤ length l = unfold fileSize in omega arith in
+    let k : 24 + 4 * (s .depth + 1) ≤ length l = unfold fileLength in omega arith in
     let whole : ((shape ++ bins) ++ readings) ++ below ≡ fileOf s note levels = unfold fileOf in simp append-assoc in
     let two = piece-next 0 shape bins l p q (omega arith) (omega arith) in
     let three = piece-next 0 (shape ++ bins) readings l two r (omega arith) (omega arith) in

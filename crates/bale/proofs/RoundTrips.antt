@@ -16,7 +16,7 @@ use Rattle.pyramid.proofs.Sizes.{total-is, total-most}
 use Rattle.pyramid.proofs.CheckedLevels.{checked, levels-checked}
 use Rattle.bale.specs.declared.Note.{Note}
 use Rattle.bale.specs.Definitions.Words.{u16At}
-use Rattle.bale.specs.Definitions.Files.{shapeSection, binsSection, readingsSection, levelSections, fileOf, fileSize}
+use Rattle.bale.specs.Definitions.Files.{shapeSection, binsSection, readingsSection, levelSections, fileOf, fileLength}
 use Rattle.bale.specs.Definitions.Reader.{binsPlace, readingsPlace, levelsPlace, settingsIn, noteIn, levelsFrom, levelsIn, shapeSectionRefusal, binsSectionRefusal, readingsSectionRefusal, levelSectionsRefusal, bodyRefusal}
 use Rattle.bale.specs.Definitions.Calls.{writeRefusal, readRefusal, readFile}
 use Rattle.bale.specs.Theorems.RoundTrips.{Held, WrittenThenRead, ReadThenWritten}
@@ -78,8 +78,8 @@ module _ (s : Settings) (note : Note) (levels : List ℤ) where
 
 -- ---- written, then read
 
-size-most : (s : Settings) → total s ≤ 22359 → s .depth ≤ 6 → fileSize s ≤ 44770
-unfolding fileSize
+size-most : (s : Settings) → total s ≤ 22359 → s .depth ≤ 6 → fileLength s ≤ 44770
+unfolding fileLength
 size-most s h k = omega arith
 
 depth-is : (s : Settings) (bytes : List ℕ) → settingsIn bytes ≡ s → u16At bytes 6 ≡ s .depth
@@ -99,11 +99,11 @@ module _ (s : Settings) (note : Note) (levels : List ℤ) (room : ℕ) (held : H
   noted : (readingsSectionRefusal file (s .depth) ≡ 0) × (noteIn file (s .depth) ≡ note)
   noted = readings-read file (s .depth) note (held .drier) (held .press) (a .noted) (parts .readings)
 
-  long : length file ≡ fileSize s
+  long : length file ≡ fileLength s
   long = length-file s note levels (a .long)
 
   leveled : (levelSectionsRefusal file s (s .depth) (levelsPlace (s .depth)) ≡ 0) × (levelsFrom file s (s .depth) (levelsPlace (s .depth)) ≡ levels)
-  unfolding fileSize
+  unfolding fileLength
   leveled =
       let t : T (checked s (s .depth) levels) = subst T (levels-checked s levels (a .long)) (a .valued) in
       let small : total s ≤ 22359 = total-most s (a .law .shaped) in
@@ -205,8 +205,8 @@ module _ (bytes : List ℕ) (places : ℕ) (all : Bytes bytes) (e : readRefusal 
   unfolding settingsIn
   found-long = length-from found bytes depth (levelsPlace depth) ∙ sym (total-is found)
 
-  file-long : fileSize found ≡ length bytes
-  unfolding fileSize
+  file-long : fileLength found ≡ length bytes
+  unfolding fileLength
   file-long = omega (arith, whole .whole, total-is found)
 
   again : fileOf found (noteIn bytes depth) (levelsIn bytes) ≡ bytes

@@ -18,22 +18,22 @@ use Rattle.pyramid.proofs.ShapeAnswers.{nodes-answer, nodes-total}
 use Rattle.bale.specs.declared.Note.{Note}
 use Rattle.bale.specs.declared.FileSize.{FileSize}
 use Rattle.bale.specs.Definitions.Readings.{noteOk}
-use Rattle.bale.specs.Definitions.Files.{fileSize}
+use Rattle.bale.specs.Definitions.Files.{fileLength}
 use Rattle.bale.specs.Definitions.Calls.{sizeAnswer, writeRefusal}
 
 -- ---- the size
 
-pub size-is : (s : Settings) → settingsRefusal s ≡ 0 → sizeAnswer s ≡ record { refusal = 0; size = fileSize s }
+pub size-is : (s : Settings) → settingsRefusal s ≡ 0 → sizeAnswer s ≡ record { refusal = 0; size = fileLength s }
 unfolding sizeAnswer
-size-is s e = rw (e, leaves-new 0 (fileSize s) 0 refl)
+size-is s e = rw (e, leaves-new 0 (fileLength s) 0 refl)
 
 module _ (s : Settings) (t : Nodes) (e : t ≡ nodesAnswer s) where
   pub size-refused : (t .refusal ≡ 0 → ⊥) → record { refusal = t .refusal; size = 0 } ≡ sizeAnswer s
   unfolding sizeAnswer
-  size-refused refused = rw (← (nodes-answer s t e), leaves-kept (t .refusal) (fileSize s) 0 refused)
+  size-refused refused = rw (← (nodes-answer s t e), leaves-kept (t .refusal) (fileLength s) 0 refused)
 
   pub size-found : t .refusal ≡ 0 → record { refusal = 0; size = 24 + 4 * (s .depth + 1) + 2 * t .nodes } ≡ sizeAnswer s
-  unfolding fileSize
+  unfolding fileLength
   size-found none = rw (nodes-total s t e none) (sym (size-is s (sym (nodes-answer s t e) ∙ none)))
 
 -- ---- number 8 comes between 6 and 11, which are the levels' own
@@ -73,7 +73,7 @@ module _ (s : Settings) (note : Note) (levels : List ℤ) (room : ℕ) (size : F
     module _ (good : ok ≡ true) {r : ℕ} (l : r ≡ levelsRefusal s levels) where
       -- the rules that are left
       abbrev later : ℕ
-      later = first (unless (eqb (length levels) (total s)) 6 ∷ unless (leb (fileSize s) room) 8 ∷ unless (valuesOk s levels) 11 ∷ [])
+      later = first (unless (eqb (length levels) (total s)) 6 ∷ unless (leb (fileLength s) room) 8 ∷ unless (valuesOk s levels) 11 ∷ [])
 
       later-is : later ≡ writeRefusal s note levels room
       unfolding writeRefusal
@@ -82,14 +82,14 @@ module _ (s : Settings) (note : Note) (levels : List ℤ) (room : ℕ) (size : F
       levels-are : r ≡ first (unless (eqb (length levels) (total s)) 6 ∷ unless (valuesOk s levels) 11 ∷ [])
       levels-are = l ∙ levels-parts s levels (sym settings-is ∙ none)
 
-      needed : size .size ≡ fileSize s
+      needed : size .size ≡ fileLength s
       needed = ap (λ (x : FileSize). x .size) (e ∙ size-is s (sym settings-is ∙ none))
 
       pub lengths-refused : r ≡ 6 → 6 ≡ writeRefusal s note levels room
       lengths-refused is = six _ _ _ levels-are is ∙ later-is
 
       pub room-refused : (r ≡ 6 → ⊥) → room < size .size → 8 ≡ writeRefusal s note levels room
-      room-refused allowed short = eight _ _ _ levels-are allowed (lt-leb (fileSize s) room (rw (← needed) short)) ∙ later-is
+      room-refused allowed short = eight _ _ _ levels-are allowed (lt-leb (fileLength s) room (rw (← needed) short)) ∙ later-is
 
       pub values-refused : size .size ≤ room → r ≡ writeRefusal s note levels room
-      values-refused long = other _ _ _ levels-are (le-leb (fileSize s) room (rw (← needed) long)) ∙ later-is
+      values-refused long = other _ _ _ levels-are (le-leb (fileLength s) room (rw (← needed) long)) ∙ later-is

@@ -16,7 +16,7 @@ ghost use Rattle.pyramid.specs.Definitions.Sizes.{nodesTo};
 ghost use Rattle.pyramid.specs.Inner.Lawful.{Shaped};
 ghost use Rattle.bale.specs.Definitions.Words.{le32, words, indexWord};
 ghost use Rattle.bale.specs.Definitions.Readings.{readingOk, noteOk, readingBytes};
-ghost use Rattle.bale.specs.Definitions.Files.{shapeSection, binsFrom, binsSection, readingsSection, levelSection, levelSections, fileOf, fileSize};
+ghost use Rattle.bale.specs.Definitions.Files.{shapeSection, binsFrom, binsSection, readingsSection, levelSection, levelSections, fileOf, fileLength};
 ghost use Rattle.bale.specs.Definitions.Calls.{writeRefusal};
 
 fn put_shape(s: Settings, file: &mut [u8])
@@ -126,7 +126,7 @@ fn put_levels(s: Settings, level: u16, levels: &[i16], from: usize, file: &mut [
 pub fn put_file(s: Settings, note: Note, levels: &[i16], file: &mut [u8])
     requires { ⌜ writeRefusal s note (now levels) (length (now file)) ≡ 0 ⌝ }
     ensures { λ _. ⌜ now (file .exit) ≡
-        fileOf s note (now (levels .entry)) ++ drop (fileSize s) (now (file .entry)) ⌝ }
+        fileOf s note (now (levels .entry)) ++ drop (fileLength s) (now (file .entry)) ⌝ }
 {
     put_shape(s, file);
     put_bins(s, file, places::BINS);

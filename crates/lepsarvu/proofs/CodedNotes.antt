@@ -13,7 +13,7 @@ use Rattle.bale.specs.declared.Note.{Note}
 use Rattle.bale.specs.declared.Probe.{Probe}
 use Rattle.bale.specs.declared.FileSize.{FileSize}
 use Rattle.bale.specs.Definitions.Readings.{decode}
-use Rattle.bale.specs.Definitions.Files.{fileSize}
+use Rattle.bale.specs.Definitions.Files.{fileLength}
 use Rattle.bale.specs.Definitions.Calls.{writeRefusal, writeFile}
 use Rattle.bale.proofs.Answers.{writing-refusal, writing-is, writing-refused}
 use Rattle.lepsarvu.specs.Definitions.Exports.{noteOf, codedRefusal, codedFile, codedSize}
@@ -48,7 +48,7 @@ module _ (s : Settings) (drierKind drierNumber pressKind pressNumber : ℕ) (lev
         stops refused,
         (
           rw (← stops refused) (sym (leaves-kept m (writeFile s note₀ levels file .file) file refused)),
-          rw (← stops refused) (sym (leaves-kept m (fileSize s) old refused)),
+          rw (← stops refused) (sym (leaves-kept m (fileLength s) old refused)),
         ),
       )
 

@@ -12,7 +12,7 @@ use lib.Dec.{T, leb, eqb, leb·zero, leb·suc-zero, leb·suc-suc, leb→le, le�
 use lib.Pow.{mod-pow-add}
 use Rattle.mathematics.proofs.Tests.{both, both-of, cond-elim, same-test}
 use Rattle.pyramid.specs.Definitions.Settings.{depthOk, divides}
-use Rattle.pyramid.specs.Definitions.Depth.{largest, allows, deepest}
+use Rattle.pyramid.specs.Definitions.Depth.{largest, allows, deepestDepth}
 
 -- ---- a trailing-zero count is a test of divisibility
 
@@ -76,13 +76,13 @@ zero-allowed : (c r : ℕ) → T (allows c r 0)
 zero-allowed c r = counts-allow c r 0 (omega arith) (omega arith) (omega arith)
 
 -- the largest N of 0 to 6 that the size allows
-pub record Deepest (c r d : ℕ) : Type 0 where
+pub record LargestDepth (c r d : ℕ) : Type 0 where
   pub most : d ≤ 6
   pub allowed : T (allows c r d)
   pub largest-of : (n : ℕ) → n ≤ 6 → T (allows c r n) → n ≤ d
 
-pub deepest-rule : (c r : ℕ) → Deepest c r (deepest c r)
-unfolding deepest
+pub deepest-rule : (c r : ℕ) → LargestDepth c r (deepestDepth c r)
+unfolding deepestDepth
 deepest-rule c r =
     record {
       most = largest-most 6 (allows c r);
@@ -91,28 +91,28 @@ deepest-rule c r =
     }
 
 -- the fewer of the trailing zero bits of C - 1 and R - 1, but at most 6
-pub deepest-counts : (c r : ℕ) → deepest c r ≡ min (min (trailingZeros 16 (c - 1)) (trailingZeros 16 (r - 1))) 6
+pub deepest-counts : (c r : ℕ) → deepestDepth c r ≡ min (min (trailingZeros 16 (c - 1)) (trailingZeros 16 (r - 1))) 6
 deepest-counts c r =
-    let d : Deepest c r (deepest c r) = deepest-rule c r in
-    let (a, b) = allows-counts c r (deepest c r) (omega (arith, d .most)) (d .allowed) in
+    let d : LargestDepth c r (deepestDepth c r) = deepest-rule c r in
+    let (a, b) = allows-counts c r (deepestDepth c r) (omega (arith, d .most)) (d .allowed) in
     let fewest : ℕ = min (min (trailingZeros 16 (c - 1)) (trailingZeros 16 (r - 1))) 6 in
-    let k : fewest ≤ deepest c r = d .largest-of fewest (omega arith) (counts-allow c r fewest (omega arith) (omega arith) (omega arith)) in
+    let k : fewest ≤ deepestDepth c r = d .largest-of fewest (omega arith) (counts-allow c r fewest (omega arith) (omega arith) (omega arith)) in
     omega (arith, d .most)
 
 -- every depth up to the deepest is allowed
-pub allowed-below : (c r n : ℕ) → n ≤ deepest c r → T (allows c r n)
+pub allowed-below : (c r n : ℕ) → n ≤ deepestDepth c r → T (allows c r n)
 allowed-below c r n h =
-    let d : Deepest c r (deepest c r) = deepest-rule c r in
-    let (a, b) = allows-counts c r (deepest c r) (omega (arith, d .most)) (d .allowed) in
+    let d : LargestDepth c r (deepestDepth c r) = deepest-rule c r in
+    let (a, b) = allows-counts c r (deepestDepth c r) (omega (arith, d .most)) (d .allowed) in
     counts-allow c r n (omega (arith, d .most)) (omega arith) (omega arith)
 
 -- so that one comparison with the deepest tests a depth and both sides
-pub deepest-test : (c r n : ℕ) → leb n (deepest c r) ≡ (depthOk n && (divides n c && divides n r))
+pub deepest-test : (c r n : ℕ) → leb n (deepestDepth c r) ≡ (depthOk n && (divides n c && divides n r))
 unfolding depthOk allows
 deepest-test c r n =
-    let d : Deepest c r (deepest c r) = deepest-rule c r in
-    same-test (leb n (deepest c r)) (leb n 6 && allows c r n)
+    let d : LargestDepth c r (deepestDepth c r) = deepest-rule c r in
+    same-test (leb n (deepestDepth c r)) (leb n 6 && allows c r n)
     (λ t.
-    let h : n ≤ deepest c r = leb→le n (deepest c r) t in
+    let h : n ≤ deepestDepth c r = leb→le n (deepestDepth c r) t in
     both-of (leb n 6) (allows c r n) (le→leb n 6 (omega (arith, d .most))) (allowed-below c r n h))
-    (λ t. let (a, b) = both (leb n 6) (allows c r n) t in le→leb n (deepest c r) (d .largest-of n (leb→le n 6 a) b))
+    (λ t. let (a, b) = both (leb n 6) (allows c r n) t in le→leb n (deepestDepth c r) (d .largest-of n (leb→le n 6 a) b))

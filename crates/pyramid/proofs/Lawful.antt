@@ -7,7 +7,7 @@ use borrow.Author.Tests.{lt-leb}
 use lib.Dec.{T, leb, eqb, leb→le, eqb→eq, le→leb}
 use Rattle.mathematics.proofs.Tests.{both, then, below-at}
 use Rattle.pyramid.specs.declared.Settings.{Settings}
-use Rattle.pyramid.specs.Inner.Lawful.{Side, Bin, Shaped, Lawful}
+use Rattle.pyramid.specs.Inner.Lawful.{Side, LawfulBin, Shaped, Lawful}
 use Rattle.pyramid.specs.Definitions.Settings.{sideOk, depthOk, divides, kernelOk, bin, slotOk, sizeOk, binsOk}
 
 side-law : (side depth : ℕ) → T (sideOk side) → T (divides depth side) → Side side depth
@@ -16,7 +16,7 @@ side-law side depth t d =
     let (least, most) = both (leb 2 side) (leb side 129) t in
     record { least = leb→le 2 side least; most = leb→le side 129 most; whole = eqb→eq ((side - 1) % 2 ^ depth) 0 d }
 
-bin-law : (depth l n : ℕ) → l ≤ depth → T (slotOk depth l n) → Bin n
+bin-law : (depth l n : ℕ) → l ≤ depth → T (slotOk depth l n) → LawfulBin n
 unfolding slotOk
 bin-law depth l n h t =
     let (least, most) = both (leb 1 n) (leb n 255) (then (leb l depth) (leb 1 n && leb n 255) (eqb n 0) (le→leb l depth h) t) in

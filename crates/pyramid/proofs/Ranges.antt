@@ -25,7 +25,7 @@ use Rattle.pyramid.specs.Definitions.Buffers.{Bytes, pixels, readLevels}
 use Rattle.pyramid.specs.Definitions.Bound.{magnified, tolerance}
 use Rattle.pyramid.specs.Definitions.Refusals.{limit, valuesOk}
 use Rattle.pyramid.specs.Inner.Ranges.{EachNode, ReduceSums, ExpandSums, CodingRanges, RebuildingRanges, Fits32}
-use Rattle.pyramid.specs.Inner.Lawful.{Kernel, Bin, Lawful}
+use Rattle.pyramid.specs.Inner.Lawful.{Kernel, LawfulBin, Lawful}
 use Rattle.pyramid.proofs.Sizes.{last-suc, last-least}
 use Rattle.pyramid.proofs.Weights.{weight-size, even-size, reach-most, hundredths-most}
 use Rattle.pyramid.proofs.Windows.{window-sums}
@@ -138,7 +138,7 @@ module _ (s : Settings) (law : Lawful s) where
   each : (l : ℕ) {e : ℕ} {u : Level} → NearAt s law l e u (λ i j. pos 0) → (f : ℕ) → e ≤ f → EachNode s l (λ i j. natAbs (u i j) ≤ f)
   each l close f h i j hi hj = le-trans (abs-near (close i j (omega arith) (omega arith))) h
 
-  least-value : (l : ℕ) (m : ℤ) → Bin (bin s l) → natAbs m ≤ natAbs (valueOf s l m)
+  least-value : (l : ℕ) (m : ℤ) → LawfulBin (bin s l) → natAbs m ≤ natAbs (valueOf s l m)
   unfolding valueOf
   least-value l m b = rw (abs-*ℤ m (pos (bin s l))) (omega (arith, mul-le-mul-left (natAbs m) (b .least)))
 

@@ -7,7 +7,7 @@ use lib.Dec.{T, leb, leb→le}
 use Rattle.mathematics.proofs.Tests.{both}
 use Rattle.pyramid.specs.declared.Settings.{Settings}
 use Rattle.pyramid.specs.Definitions.Settings.{sideOk, bin, slotOk, sizeOk}
-use Rattle.pyramid.specs.Definitions.Depth.{deepest}
+use Rattle.pyramid.specs.Definitions.Depth.{deepestDepth}
 use Rattle.pyramid.proofs.Depth.{deepest-test}
 
 side-positive : (side : ℕ) → T (sideOk side) → 1 ≤ side
@@ -18,7 +18,7 @@ pub sides-positive : (c r : ℕ) → (sideOk c && sideOk r) ≡ true → (1 ≤ 
 sides-positive c r e = let (a, b) = both (sideOk c) (sideOk r) (rw e tt) in (side-positive c a, side-positive r b)
 
 module _ (s : Settings) where
-  pub size-test : (sideOk (s .columns) && sideOk (s .rows)) ≡ true → leb (s .depth) (deepest (s .columns) (s .rows)) ≡ sizeOk s
+  pub size-test : (sideOk (s .columns) && sideOk (s .rows)) ≡ true → leb (s .depth) (deepestDepth (s .columns) (s .rows)) ≡ sizeOk s
   unfolding sizeOk
   size-test e = rw e (deepest-test (s .columns) (s .rows) (s .depth))
 

@@ -11,13 +11,13 @@ use Rattle.pyramid.specs.Definitions.Sizes.{Level, last}
 use Rattle.pyramid.specs.Definitions.Pyramid.{expanded, indexOf, average, difference, index}
 use Rattle.pyramid.specs.Definitions.Rebuilding.{valueOf, rebuild}
 use Rattle.pyramid.specs.Definitions.Bound.{magnified, tolerance, bound}
-use Rattle.pyramid.specs.Inner.Lawful.{Bin, Lawful}
+use Rattle.pyramid.specs.Inner.Lawful.{LawfulBin, Lawful}
 use Rattle.pyramid.proofs.Sizes.{last-suc, last-least}
 use Rattle.pyramid.proofs.Steps.{NearLevel, near-expand}
 use Rattle.pyramid.proofs.Differences.{difference-top, difference-below}
 
 -- a value of a level lies within the level's tolerance of its index's value
-pub near-index : (s : Settings) (l : ℕ) (x : ℤ) → Bin (bin s l) → Near (tolerance s l) (valueOf s l (indexOf s l x)) x
+pub near-index : (s : Settings) (l : ℕ) (x : ℤ) → LawfulBin (bin s l) → Near (tolerance s l) (valueOf s l (indexOf s l x)) x
 unfolding tolerance valueOf indexOf
 near-index s l x b = bin-near x (bin s l) (b .least)
 

@@ -4,7 +4,7 @@ ghost use mathlib.Core.Path.{_≡_};
 ghost use mathlib.Core.Bool.{_&&_};
 ghost use Prim.Native.Nat.{_≤_, _<_, min};
 ghost use Rattle.pyramid.specs.Definitions.Settings.{sideOk, kernelOk, slotOk, sizeOk, binsOk};
-ghost use Rattle.pyramid.specs.Definitions.Depth.{deepest};
+ghost use Rattle.pyramid.specs.Definitions.Depth.{deepestDepth};
 ghost use Rattle.pyramid.specs.Definitions.Refusals.{shapeRefusal, settingsRefusal};
 
 fn lesser(a: u32, b: u32) -> u32
@@ -34,7 +34,7 @@ pub fn sides_ok(columns: u16, rows: u16) -> bool
 // The fewer of the trailing zero bits of columns - 1 and rows - 1, but at most 6.
 pub fn deepest(columns: u16, rows: u16) -> u16
     requires { ⌜ (1 ≤ columns) × (1 ≤ rows) ⌝ }
-    ensures { λ r. ⌜ r ≡ deepest columns rows ⌝ }
+    ensures { λ r. ⌜ r ≡ deepestDepth columns rows ⌝ }
 {
     let c = u16::trailing_zeros(columns - 1);
     let r = u16::trailing_zeros(rows - 1);

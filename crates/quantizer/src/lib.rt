@@ -7,7 +7,7 @@ ghost use Rattle.quantizer.specs.Definitions.Rounding.{roundDiv};
 ghost use Rattle.quantizer.specs.Definitions.Bins.{binIndex};
 ghost use Rattle.quantizer.specs.Inner.Division.{Floor};
 ghost use Rattle.quantizer.specs.Definitions.Reciprocals.{reciprocal};
-ghost use Rattle.quantizer.specs.Inner.Factors.{Reciprocal};
+ghost use Rattle.quantizer.specs.Inner.Factors.{ReciprocalFactor};
 
 // The largest whole number not above (x + h) / d. 2^31 divisors are added, so that what is divided is not negative, and taken off again.
 fn divide(x: i32, h: u16, d: u16) -> i32
@@ -41,7 +41,7 @@ pub fn reciprocal(bin: u16) -> u32
 
 // Whether a multiplication by the factor can stand for a division by the bin.
 fn is_reciprocal(bin: u16, factor: u32) -> bool
-    ensures { λ r. ⌜ (r ≡ true → Reciprocal bin factor) ⌝ }
+    ensures { λ r. ⌜ (r ≡ true → ReciprocalFactor bin factor) ⌝ }
 {
     if bin < 256 {
         let product = factor as u64 * bin as u64;
@@ -55,7 +55,7 @@ fn is_reciprocal(bin: u16, factor: u32) -> bool
 // The same as `divide`, by a multiplication.
 fn multiply(x: i32, h: u16, d: u16, factor: u32) -> i32
     requires { ⌜ (h < d) × (natAbs x ≤ 8192) ⌝ }
-    requires { ⌜ Reciprocal d factor ⌝ }
+    requires { ⌜ ReciprocalFactor d factor ⌝ }
     ensures { λ r. ⌜ Floor (x +ℤ pos h) (pos d) r ⌝ }
 {
     let raised = (x + h as i32 + d as i32 * 8192) as u64;

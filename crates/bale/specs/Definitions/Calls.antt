@@ -14,7 +14,7 @@ use Rattle.bale.specs.declared.Reading.the-variants.{NotFitted}
 use Rattle.bale.specs.declared.FileSize.{FileSize}
 use Rattle.bale.specs.declared.Bale.{Bale}
 use Rattle.bale.specs.Definitions.Readings.{noteOk}
-use Rattle.bale.specs.Definitions.Files.{fileOf, fileSize}
+use Rattle.bale.specs.Definitions.Files.{fileOf, fileLength}
 use Rattle.bale.specs.Definitions.Reader.{depthIn, settingsIn, noteIn, levelsIn, shapeSectionRefusal, bodyRefusal}
 
 -- ---- the writer
@@ -26,7 +26,7 @@ pub record WriteOutcome : Type 0 where
 module _ (s : Settings) where
   -- the size of a file of settings: 1 to 3 are looked for
   unfoldable pub sizeAnswer : FileSize
-  sizeAnswer = record { refusal = settingsRefusal s; size = leaves (settingsRefusal s) (fileSize s) 0 }
+  sizeAnswer = record { refusal = settingsRefusal s; size = leaves (settingsRefusal s) (fileLength s) 0 }
 
   -- the writer looks for 1, 2, 3, 4, 6, 8, 11
   unfoldable pub writeRefusal : Note → List ℤ → ℕ → ℕ
@@ -34,7 +34,7 @@ module _ (s : Settings) where
       first (settingsRefusal s
       ∷ unless (noteOk note) 4
       ∷ unless (eqb (length levels) (total s)) 6
-      ∷ unless (leb (fileSize s) room) 8
+      ∷ unless (leb (fileLength s) room) 8
       ∷ unless (valuesOk s levels) 11
       ∷ [])
 
@@ -43,8 +43,8 @@ module _ (s : Settings) where
   writeFile note levels file =
       let refusal = writeRefusal note levels (length file) in
       record {
-        answer = record { refusal = refusal; size = leaves refusal (fileSize s) 0 };
-        file = leaves refusal (fileOf s note levels ++ drop (fileSize s) file) file;
+        answer = record { refusal = refusal; size = leaves refusal (fileLength s) 0 };
+        file = leaves refusal (fileOf s note levels ++ drop (fileLength s) file) file;
       }
 
 -- ---- the readers

@@ -41,5 +41,5 @@ module _ (s : Settings) where
   fileOf note levels = shapeSection ++ (binsSection ++ (readingsSection note ++ levelSections (s .depth) levels))
 
   -- a file has 24 + 4(N + 1) + 2T bytes
-  unfoldable pub fileSize : ℕ
-  fileSize = 24 + 4 * (s .depth + 1) + 2 * total s
+  unfoldable pub fileLength : ℕ
+  fileLength = 24 + 4 * (s .depth + 1) + 2 * total s

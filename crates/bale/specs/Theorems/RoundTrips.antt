@@ -16,7 +16,7 @@ use Rattle.bale.specs.declared.Reading.{Reading}
 use Rattle.bale.specs.declared.Reading.the-variants.{NotFitted, Percentage, Fault}
 use Rattle.bale.specs.declared.Note.{Note}
 use Rattle.bale.specs.Definitions.Readings.{noteOk}
-use Rattle.bale.specs.Definitions.Files.{fileOf, fileSize}
+use Rattle.bale.specs.Definitions.Files.{fileOf, fileLength}
 use Rattle.bale.specs.Definitions.Calls.{writeRefusal, writeFile, readRefusal, readFile}
 
 -- ---- what the types of the arguments say of them, and no more
@@ -36,8 +36,8 @@ pub record Held (s : Settings) (note : Note) (levels : List ℤ) : Type 0 where
 -- ---- written, then read: whatever the writer accepts, read into any level buffer of T places, is the same settings, readings and levels
 
 pub record WrittenIsRead (s : Settings) (note : Note) (levels : List ℤ) : Type 0 where
-  pub size : length (fileOf s note levels) ≡ fileSize s
-  pub most : fileSize s ≤ 44770
+  pub size : length (fileOf s note levels) ≡ fileLength s
+  pub most : fileLength s ≤ 44770
   pub read : (lent : List ℤ) → length lent ≡ total s
       → readFile (fileOf s note levels) lent ≡ record { answer = record { refusal = 0; settings = s; note = note }; levels = levels }
 
@@ -61,4 +61,4 @@ ReadThenWritten = (bytes : List ℕ) (lent : List ℤ) → Bytes bytes → readR
 abbrev pub CodedThenWritten : Type 0
 CodedThenWritten =
     (s : Settings) (note : Note) (picture : List ℕ) (levels work : List ℤ) (room : ℕ) → Bytes picture → coding s picture levels work .answer ≡ 0
-    → T (noteOk note) → fileSize s ≤ room → writeRefusal s note (coding s picture levels work .levels) room ≡ 0
+    → T (noteOk note) → fileLength s ≤ room → writeRefusal s note (coding s picture levels work .levels) room ≡ 0

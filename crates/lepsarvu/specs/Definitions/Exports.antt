@@ -8,7 +8,7 @@ use Rattle.pyramid.specs.Definitions.Refusals.{first, settingsRefusal}
 use Rattle.pyramid.specs.Definitions.Calls.{leaves}
 use Rattle.bale.specs.declared.Note.{Note}
 use Rattle.bale.specs.Definitions.Readings.{codeOf, decode}
-use Rattle.bale.specs.Definitions.Files.{fileSize}
+use Rattle.bale.specs.Definitions.Files.{fileLength}
 use Rattle.bale.specs.Definitions.Calls.{WriteOutcome, writeRefusal, writeFile}
 
 abbrev pub settingsOf : (columns rows depth kernel : ℕ) → List ℕ → Settings
@@ -49,4 +49,4 @@ module _ (s : Settings) (drierKind drierNumber pressKind pressNumber : ℕ) wher
 
   -- the lent size afterwards
   unfoldable pub codedSize : List ℤ → ℕ → ℕ → ℕ
-  codedSize levels room old = leaves (codedRefusal levels room) (fileSize s) old
+  codedSize levels room old = leaves (codedRefusal levels room) (fileLength s) old

@@ -14,7 +14,7 @@ use Rattle.pyramid.specs.declared.LevelSize.{LevelSize}
 use Rattle.pyramid.specs.Definitions.Settings.{sideOk}
 use Rattle.pyramid.specs.Definitions.Sizes.{columnsAt, rowsAt, total}
 use Rattle.pyramid.specs.Definitions.Bound.{boundAt}
-use Rattle.pyramid.specs.Definitions.Depth.{deepest}
+use Rattle.pyramid.specs.Definitions.Depth.{deepestDepth}
 use Rattle.pyramid.specs.Definitions.Refusals.{unless, shapeRefusal, settingsRefusal}
 use Rattle.pyramid.specs.Definitions.Calls.{leaves}
 
@@ -45,4 +45,4 @@ levelSizeAnswer s l =
 unfoldable pub deepestAnswer : ℕ → ℕ → Deepest
 deepestAnswer columns rows =
     let refusal = unless (sideOk columns && sideOk rows) 1 in
-    record { refusal = refusal; depth = leaves refusal (deepest columns rows) 0 }
+    record { refusal = refusal; depth = leaves refusal (deepestDepth columns rows) 0 }

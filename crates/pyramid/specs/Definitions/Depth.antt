@@ -12,5 +12,5 @@ largest (suc n) test = cond (test (suc n)) (suc n) (largest n test)
 unfoldable pub allows : ℕ → ℕ → ℕ → Bool
 allows columns rows n = divides n columns && divides n rows
 
-unfoldable pub deepest : ℕ → ℕ → ℕ
-deepest columns rows = largest 6 (allows columns rows)
+unfoldable pub deepestDepth : ℕ → ℕ → ℕ
+deepestDepth columns rows = largest 6 (allows columns rows)

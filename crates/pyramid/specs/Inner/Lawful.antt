@@ -14,7 +14,7 @@ pub record Kernel (k : ℕ) : Type 0 where
   pub least : 3 ≤ k
   pub most : k ≤ 6
 
-pub record Bin (n : ℕ) : Type 0 where
+pub record LawfulBin (n : ℕ) : Type 0 where
   pub least : 1 ≤ n
   pub most : n ≤ 255
 
@@ -27,4 +27,4 @@ pub record Shaped (s : Settings) : Type 0 where
 
 pub record Lawful (s : Settings) : Type 0 where
   pub shaped : Shaped s
-  pub binned : (l : ℕ) → l ≤ s .depth → Bin (bin s l)
+  pub binned : (l : ℕ) → l ≤ s .depth → LawfulBin (bin s l)

@@ -3,18 +3,18 @@ use native.Mathlib.Omega.{arith}
 use borrow.Author.Needs.{needs}
 use denote.Ref.{now}
 use Rattle.pyramid.proofs.Sizes.{total-is}
-use Rattle.bale.specs.Definitions.Files.{fileSize}
+use Rattle.bale.specs.Definitions.Files.{fileLength}
 use Rattle.bale.proofs.AcceptedFiles.{accepted-writing}
 use Rattle.bale.proofs.Pieces.{file-next}
 use Rattle.bale.proofs.putting.put_file.Statement.{statement}
 use Rattle.bale.proofs.putting.put_file.Tie as tie
 
 put-shape-requires : tie.Need-put-shape-requires
-unfolding fileSize
+unfolding fileLength
 put-shape-requires c κs = let w = accepted-writing _ _ _ _ (c .before .before .pre) in omega (arith, w .fits)
 
 put-bins-requires : tie.Need-put-bins-requires
-unfolding fileSize
+unfolding fileLength
 put-bins-requires c κs =
     let w = accepted-writing _ _ _ _ (c .before .before .before .before .before .before .pre) in
     (w .law .shaped, omega (arith, w .fits))
@@ -23,7 +23,7 @@ readings-requires : tie.Need-readings-requires
 readings-requires c κs = search needs
 
 put-readings-requires : tie.Need-put-readings-requires
-unfolding fileSize
+unfolding fileLength
 put-readings-requires c κs =
     let w = accepted-writing _ _ _ _ (c .before .before .before .before .before .before .before .before .before .before .before .pre) in
     (w .noted, omega (arith, c .readings .ensures, w .fits))
@@ -32,7 +32,7 @@ levels-requires : tie.Need-levels-requires
 levels-requires c κs = search needs
 
 put-levels-requires : tie.Need-put-levels-requires
-unfolding fileSize
+unfolding fileLength
 put-levels-requires c κs =
     let d = c .before .before .before .before .before .before .before .before .before .before .before .before .before .before .before .before in
     let w = accepted-writing _ _ _ _ (d .pre) in
