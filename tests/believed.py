@@ -5,8 +5,8 @@ In each crate of the product, specs/Definitions holds what public promises and t
 statements of theorems, and specs/Inner the words of contracts that only the crate itself can meet. Checked are:
 that every file of specs/ is in one of these; that none of the first two uses a word of Inner or a law of proofs/; that
 no promise of a public function does; that every definition is reached from a promise or a theorem; that every theorem
-is proved; and that the list in docs/CLAIMS.md has every file with its number of lines, and README.md, docs/REGULATOR.md
-and docs/CLAIMS.md their sum. Lines of definitions are counted: no imports, comments or blank lines.
+is proved; and that the list in docs/CLAIMS.md has every file with its number of lines, README.md and docs/REGULATOR.md the same
+files in the same order, and all three their sum. Lines of definitions are counted: no imports, comments or blank lines.
 Ends with one line 'N passed, M failed'; the exit status is 1 if M is not 0.
 """
 import pathlib
@@ -126,6 +126,18 @@ def lines_of(path):
     return len([line for line in counted if not line.startswith('--')]), len(counted)
 
 
+def check_summary(name, order):
+    """A row of a short list: crates with their files, `crate: File, File; crate: File`, and the sum of their lines."""
+    found = []
+    for files, lines in re.findall(r'(?m)^ *\|[^|]*\| (\w+: \w[^|]*) \| (\d+) \|$', text_of(ROOT / name)):
+        row = [(crate, file) for part in files.split('; ') for crate, _, names in [part.partition(': ')] for file in names.split(', ')]
+        paths = [file_of(crate, ['specs', folder, file]) for crate, file in row for folder in BELIEVED]
+        paths = [path for path in paths if path.exists()]
+        check(sum(lines_of(path)[0] for path in paths) == int(lines), '%s: %s' % (name, files))
+        found += [str(path.relative_to(ROOT / 'crates')) for path in paths]
+    check(found == order, '%s has not the files of docs/CLAIMS.md in their order' % name)
+
+
 def check_documents(believed):
     """docs/CLAIMS.md lists each file with its lines; the three documents have the sum."""
     claims = text_of(ROOT / 'docs' / 'CLAIMS.md')
@@ -137,6 +149,8 @@ def check_documents(believed):
         name = str(path.relative_to(ROOT / 'crates'))
         check(listed.pop(name, None) == lines_of(path)[0], 'docs/CLAIMS.md: %s has %d lines' % (name, lines_of(path)[0]))
     check(not listed, 'docs/CLAIMS.md lists what is not there: %s' % ', '.join(listed))
+    for name in ('README.md', 'docs/REGULATOR.md'):
+        check_summary(name, [name for name, _ in rows])
     said = '%d lines of definitions' % sums[0]
     for name in ('README.md', 'docs/REGULATOR.md', 'docs/CLAIMS.md'):
         check(said in ' '.join(text_of(ROOT / name).split()), '%s does not say "%s"' % (name, said))
