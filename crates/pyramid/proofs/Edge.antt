@@ -7,19 +7,19 @@ use native.Mathlib.Decide.{decLt}
 use Rattle.pyramid.specs.Definitions.Edge.{reflect, EdgeRule}
 use Rattle.pyramid.specs.Definitions.Steps.{halved}
 
--- ---- inside, before and past the level
+-- ---- what is read: inside, before and past the level
 
-pub reflect-inside : (z p : ℕ) → 2 ≤ p → p ≤ z + 2 → reflect z p ≡ p - 2
+pub read-inside : (z p : ℕ) {column : ℕ} → column + 2 ≡ p → column ≤ z → column ≡ reflect z p
 unfolding reflect
-reflect-inside z p h k = omega arith
+read-inside z p e h = omega arith
 
-pub reflect-before : (z p : ℕ) → p ≤ 2 → 2 ≤ z + p → reflect z p ≡ 2 - p
+pub read-before : (z p : ℕ) {column : ℕ} → column + p ≡ 2 → column ≤ z → column ≡ reflect z p
 unfolding reflect
-reflect-before z p h k = omega arith
+read-before z p e h = omega arith
 
-pub reflect-past : (z p : ℕ) → z + 2 ≤ p → p ≤ 2 * z + 2 → reflect z p ≡ 2 * z + 2 - p
+pub read-past : (z p : ℕ) {column : ℕ} → column + p ≡ 2 * z + 2 → z + 2 ≤ p → column ≡ reflect z p
 unfolding reflect
-reflect-past z p h k = omega arith
+read-past z p e h = omega arith
 
 pub reflect-most : (z p : ℕ) → 2 ≤ z + p → p ≤ 2 * z + 2 → reflect z p ≤ z
 unfolding reflect
@@ -31,13 +31,10 @@ pub edge-rule : (z : ℕ) → 1 ≤ z → EdgeRule z (reflect z)
 edge-rule zero h = absurd (omega arith)
 edge-rule (suc zero) h = unfold reflect in record { inside = λ column k. omega arith; before = (refl, refl); past = (refl, refl) }
 edge-rule (suc (suc y)) h = record {
-  inside = λ column k. omega (arith, reflect-inside z (column + 2) (omega arith) (omega arith));
-  before = (omega (arith, reflect-before z 1 (omega arith) (omega arith), reflect-inside z 3 (omega arith) (omega arith)), omega (arith, reflect-before z 0 (omega arith) (omega arith), reflect-inside z 4 (omega arith) (omega arith)));
-  past = (omega (arith, reflect-past z (z + 3) (omega arith) (omega arith), reflect-inside z (z + 1) (omega arith) (omega arith)), omega (arith, reflect-past z (z + 4) (omega arith) (omega arith), reflect-inside z z (omega arith) (omega arith)));
+  inside = λ column k. sym (read-inside _ _ refl k);
+  before = (sym (read-before _ _ {column = 1} refl (omega arith)) ∙ read-inside _ _ refl (omega arith), sym (read-before _ _ {column = 2} refl (omega arith)) ∙ read-inside _ _ refl (omega arith));
+  past = (sym (read-past _ _ {column = suc y} (omega arith) (omega arith)) ∙ read-inside _ _ (omega arith) (omega arith), sym (read-past _ _ {column = y} (omega arith) (omega arith)) ∙ read-inside _ _ (omega arith) (omega arith));
 }
-  where
-    z : ℕ
-    z = suc (suc y)
 
 -- what meets the rule reads the same columns, from -2 to z + 2
 module _ (z : ℕ) (least : 1 ≤ z) (f g : ℕ → ℕ) (a : EdgeRule z f) (b : EdgeRule z g) where

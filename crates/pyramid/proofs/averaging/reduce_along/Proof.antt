@@ -15,7 +15,7 @@ use Rattle.mathematics.proofs.Filling.{Filling, filling-start, filling-next, fi
 use Rattle.quantizer.specs.Definitions.Rounding.{roundDiv}
 use Rattle.pyramid.specs.Definitions.Weights.{weight}
 use Rattle.pyramid.specs.Definitions.Edge.{reflect}
-use Rattle.pyramid.proofs.Edge.{reflect-inside, reflect-before, reflect-past}
+use Rattle.pyramid.proofs.Edge.{read-inside, read-before, read-past}
 use Rattle.pyramid.specs.Inner.Rows.{Within, Small}
 use Rattle.pyramid.proofs.TapSums.{within-held}
 use Rattle.pyramid.proofs.ColumnSums.{node-formed}
@@ -28,16 +28,11 @@ node k sums last i = roundDiv (sum 5 (λ t. weight k t *ℤ getD sums (reflect l
 
 -- where its taps lie: those of the first node, of an inner one, and of the last
 first-taps : (last : ℕ) → 2 ≤ last → (2 ≡ reflect last (2 * 0 + 0)) × (1 ≡ reflect last (2 * 0 + 1)) × (0 ≡ reflect last (2 * 0 + 2)) × (1 ≡ reflect last (2 * 0 + 3)) × (2 ≡ reflect last (2 * 0 + 4))
-first-taps last h = (
-  sym (reflect-before last 0 (omega arith) (omega arith)),
-  sym (reflect-before last 1 (omega arith) (omega arith)),
-  sym (reflect-inside last 2 (omega arith) (omega arith)),
-  sym (reflect-inside last 3 (omega arith) (omega arith)),
-  sym (reflect-inside last 4 (omega arith) (omega arith)),
-)
+first-taps last h =
+    (read-before _ _ refl h, read-before _ _ refl (omega arith), read-inside _ _ refl (omega arith), read-inside _ _ refl (omega arith), read-inside _ _ refl h)
 
 inner-tap : (last i t : ℕ) → i < last / 2 - 1 → t < 5 → 2 * i + t ≡ reflect last (2 * (1 + i) + t)
-inner-tap last i t h k = omega (arith, reflect-inside last (2 * (1 + i) + t) (omega arith) (omega arith))
+inner-tap last i t h k = read-inside _ _ (omega arith) (omega arith)
 
 abbrev Inv-loop : tie.InvT-loop
 Inv-loop sums last kernel work₀ at w0 w1 w2 inner n i₀ work i = Filling inner n (λ i. node kernel sums last (1 + i)) work₀ work i
@@ -48,11 +43,11 @@ abbrev μ-loop : tie.MeasureT-loop
 last-taps : (last i : ℕ) → 2 ≤ last → last % 2 ≡ 0 → i ≡ last / 2 - 1 → (last - 2 ≡ reflect last (2 * (1 + i) + 0)) × (last - 1 ≡ reflect last (2 * (1 + i) + 1))
     × (last ≡ reflect last (2 * (1 + i) + 2)) × (last - 1 ≡ reflect last (2 * (1 + i) + 3)) × (last - 2 ≡ reflect last (2 * (1 + i) + 4))
 last-taps last i h even e = (
-  omega (arith, reflect-inside last (2 * (1 + i) + 0) (omega arith) (omega arith)),
-  omega (arith, reflect-inside last (2 * (1 + i) + 1) (omega arith) (omega arith)),
-  omega (arith, reflect-inside last (2 * (1 + i) + 2) (omega arith) (omega arith)),
-  omega (arith, reflect-past last (2 * (1 + i) + 3) (omega arith) (omega arith)),
-  omega (arith, reflect-past last (2 * (1 + i) + 4) (omega arith) (omega arith)),
+  read-inside _ _ (omega arith) (omega arith),
+  read-inside _ _ (omega arith) (omega arith),
+  read-inside _ _ (omega arith) (omega arith),
+  read-past _ _ (omega arith) (omega arith),
+  read-past _ _ (omega arith) (omega arith),
 )
 
 -- what is known once the weights are there

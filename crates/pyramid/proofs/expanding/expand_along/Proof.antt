@@ -11,6 +11,7 @@ use Rattle.mathematics.proofs.Filling.{Filling, filling-start, filling-next, fi
 use Rattle.mathematics.proofs.Held.{held}
 use Rattle.pyramid.specs.Definitions.Edge.{reflect}
 use Rattle.pyramid.specs.Inner.Rows.{Small}
+use Rattle.pyramid.proofs.Edge.{read-inside, read-before, read-past}
 use Rattle.pyramid.proofs.TapSums.{within-held, Weight}
 use Rattle.pyramid.proofs.ExpandTaps.{node, even-node, odd-node}
 use Rattle.pyramid.proofs.expanding.expand_along.Statement.{statement}
@@ -42,22 +43,20 @@ abbrev Written : (c : tie.Start Inv-loop μ-loop) → List ℤ → ℕ → Type 
 Written c row i = Filling 0 (2 * c .args .last + 1) (node (c .args .kernel) (c .args .last) (now (c .args .sums))) (now (c .args .row)) row i
 
 first : (c : tie.After-expand-node Inv-loop μ-loop) → let s = c .before .before .before .before in Written s (set (now (s .args .row)) 0 (held (c .expand-node .result))) 1
-unfolding reflect
 first c =
     let w = c .before in
     let a = w .before .before .before .args in
     filling-next (filling-start _ _ _ _) (omega arith) refl
-    (even-node (a .kernel) (a .last) (now (a .sums)) 0 (w .weight-at3 .ensures) (w .before .before .weight-at .ensures) (sfits-of (c .expand-node .ok)) (c .expand-node .ensures) refl (omega arith) (omega arith) (omega arith))
+    (even-node (a .kernel) (a .last) (now (a .sums)) 0 (w .weight-at3 .ensures) (w .before .before .weight-at .ensures) (sfits-of (c .expand-node .ok)) (c .expand-node .ensures) refl (read-before _ _ (omega arith) (omega arith)) (read-inside _ _ (omega arith) (omega arith)) (read-inside _ _ (omega arith) (omega arith)))
     (omega arith)
 
 second : (c : tie.After-expand-node2 Inv-loop μ-loop) → let s = c .before .before .before .before .before in
     Written s (set (set (now (s .args .row)) 0 (held (c .before .expand-node .result))) 1 (held (c .expand-node2 .result))) 2
-unfolding reflect
 second c =
     let w = c .before .before in
     let a = w .before .before .before .args in
     filling-next (first (c .before)) (omega arith) refl
-    (odd-node (a .kernel) (a .last) (now (a .sums)) 1 (w .before .weight-at2 .ensures) (sfits-of (c .expand-node2 .ok)) (c .expand-node2 .ensures) refl (omega arith) (omega arith))
+    (odd-node (a .kernel) (a .last) (now (a .sums)) 1 (w .before .weight-at2 .ensures) (sfits-of (c .expand-node2 .ok)) (c .expand-node2 .ensures) refl (read-inside _ _ (omega arith) (omega arith)) (read-inside _ _ (omega arith) (omega arith)))
     (omega arith)
 
 so-far : (c : tie.At-loop Inv-loop μ-loop) → Written (start c) (c .loop .row) (2 * c .loop .a)
@@ -65,36 +64,33 @@ so-far c = filling-on (second (c .before)) (omega arith) (c .loop .inv .0) (omeg
 
 third : (c : tie.After-expand-node3 Inv-loop μ-loop) → let l = c .before .before in
     Written (start l) (set (l .loop .row) (2 * l .loop .a) (held (c .expand-node3 .result))) (2 * l .loop .a + 1)
-unfolding reflect
 third c =
     let l = c .before .before in
     let w = l .before .before .before in
     let a = w .before .before .before .args in
     filling-next (so-far l) (omega arith) (omega arith)
-    (even-node (a .kernel) (a .last) (now (a .sums)) (2 * l .loop .a) (w .weight-at3 .ensures) (w .before .before .weight-at .ensures) (sfits-of (c .expand-node3 .ok)) (c .expand-node3 .ensures) (omega arith) (omega arith) (omega arith) (omega arith))
+    (even-node (a .kernel) (a .last) (now (a .sums)) (2 * l .loop .a) (w .weight-at3 .ensures) (w .before .before .weight-at .ensures) (sfits-of (c .expand-node3 .ok)) (c .expand-node3 .ensures) (omega arith) (read-inside _ _ (omega arith) (omega arith)) (read-inside _ _ (omega arith) (omega arith)) (read-inside _ _ (omega arith) (omega arith)))
     (omega arith)
 
 fourth : (c : tie.After-expand-node4 Inv-loop μ-loop) → let l = c .before .before .before in
     Written (start l) (set (set (l .loop .row) (2 * l .loop .a) (held (c .before .expand-node3 .result))) (2 * l .loop .a + 1) (held (c .expand-node4 .result))) (2 * l .loop .a + 1 + 1)
-unfolding reflect
 fourth c =
     let l = c .before .before .before in
     let w = l .before .before .before in
     let a = w .before .before .before .args in
     filling-next (third (c .before)) (omega arith) (omega arith)
-    (odd-node (a .kernel) (a .last) (now (a .sums)) (2 * l .loop .a + 1) (w .before .weight-at2 .ensures) (sfits-of (c .expand-node4 .ok)) (c .expand-node4 .ensures) (omega arith) (omega arith) (omega arith))
+    (odd-node (a .kernel) (a .last) (now (a .sums)) (2 * l .loop .a + 1) (w .before .weight-at2 .ensures) (sfits-of (c .expand-node4 .ok)) (c .expand-node4 .ensures) (omega arith) (read-inside _ _ (omega arith) (omega arith)) (read-inside _ _ (omega arith) (omega arith)))
     (omega arith)
 
 last-one : (c : tie.After-expand-node5 Inv-loop μ-loop) → let l = c .before .before in let z = start l .args .last in
     Written (start l) (set (l .loop .row) (2 * z) (held (c .expand-node5 .result))) (2 * z + 1)
-unfolding reflect
 last-one c =
     let l = c .before .before in
     let w = l .before .before .before in
     let a = w .before .before .before .args in
     let e : l .loop .a ≡ a .last = omega arith in
     filling-next (subst (λ (n : ℕ). Written (start l) (l .loop .row) (2 * n)) e (so-far l)) (omega arith) (omega arith)
-    (even-node (a .kernel) (a .last) (now (a .sums)) (2 * a .last) (w .weight-at3 .ensures) (w .before .before .weight-at .ensures) (sfits-of (c .expand-node5 .ok)) (c .expand-node5 .ensures) (omega arith) (omega arith) (omega arith) (omega arith))
+    (even-node (a .kernel) (a .last) (now (a .sums)) (2 * a .last) (w .weight-at3 .ensures) (w .before .before .weight-at .ensures) (sfits-of (c .expand-node5 .ok)) (c .expand-node5 .ensures) (omega arith) (read-inside _ _ (omega arith) (omega arith)) (read-inside _ _ (omega arith) (omega arith)) (read-past _ _ (omega arith) (omega arith)))
     (omega arith)
 
 -- ---- the needs

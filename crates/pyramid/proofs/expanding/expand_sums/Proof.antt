@@ -1,5 +1,5 @@
 -- `pyramid::expanding::expand_sums` meets its contract: the two or three rows that it weighs are the taps of an odd or an even row. Assumes nothing.
-use mathlib.Core.Path.{_≡_, ap, _∙_, fun-ext}
+use mathlib.Core.Path.{_≡_, refl, ap, _∙_, fun-ext}
 use Prim.Native.Nat.{ℕ, _+_, _-_, _*_, _/_, _<_}
 use native.Mathlib.Omega.{arith}
 use lib.IntN.{ℤ, pos}
@@ -10,6 +10,7 @@ use Rattle.mathematics.specs.Definitions.Tables.{tabulate}
 use Rattle.mathematics.specs.Inner.Splices.{splice}
 use Rattle.pyramid.specs.Inner.Rows.{asLevel, columnSum}
 use Rattle.pyramid.specs.Definitions.Edge.{reflect}
+use Rattle.pyramid.proofs.Edge.{read-inside, reflect-most}
 use Rattle.pyramid.proofs.TapSums.{within-held}
 use Rattle.pyramid.proofs.ExpandTaps.{even-formed, odd-formed}
 use Rattle.pyramid.proofs.Buffers.{source-row}
@@ -21,23 +22,25 @@ here : (c : tie.Start) → c .args .j / 2 < c .args .rows
 here c = omega (arith, c .pre .1 .0 .high, c .pre .1 .1)
 
 above : (c : tie.After-reflected) → c .reflected .result < c .before .before .args .rows
-unfolding reflect
-above c = omega (arith, c .before .before .pre .1 .0 .high, c .before .before .pre .1 .1, c .reflected .ensures)
+above c =
+    let s = c .before .before in
+    let h = s .pre .1 .0 .high in
+    omega (arith, c .reflected .ensures, reflect-most (s .args .rows - 1) (s .args .j / 2 + 1) (omega arith) (omega (arith, s .pre .1 .1)))
 
 below : (c : tie.After-reflected2) → c .reflected2 .result < c .before .before .before .args .rows
-unfolding reflect
-below c = omega (arith, c .before .before .before .pre .1 .0 .high, c .before .before .before .pre .1 .1, c .reflected2 .ensures)
+below c =
+    let s = c .before .before .before in
+    let h = s .pre .1 .0 .high in
+    omega (arith, c .reflected2 .ensures, reflect-most (s .args .rows - 1) (s .args .j / 2 + 3) (omega arith) (omega (arith, s .pre .1 .1)))
 
 after : (c : tie.Else1) → c .before .args .j / 2 + 1 < c .before .args .rows
 after c = omega (arith, c .before .pre .1 .0 .high, c .before .pre .1 .1, c .if1 .left)
 
 centre : (c : tie.Start) → c .args .j / 2 ≡ reflect (c .args .rows - 1) (c .args .j / 2 + 2)
-unfolding reflect
-centre c = omega (arith, here c)
+centre c = read-inside _ _ refl (omega (arith, here c))
 
 next : (c : tie.Else1) → c .before .args .j / 2 + 1 ≡ reflect (c .before .args .rows - 1) (c .before .args .j / 2 + 3)
-unfolding reflect
-next c = omega (arith, after c)
+next c = read-inside _ _ (omega arith) (omega (arith, after c))
 
 start : (columns y : ℕ) → (y + 1) * columns ≡ y * columns + columns
 start columns y = omega arith
