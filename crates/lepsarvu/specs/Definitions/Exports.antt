@@ -11,6 +11,7 @@ use Rattle.bale.specs.Definitions.Readings.{codeOf, decode}
 use Rattle.bale.specs.Definitions.Files.{fileLength}
 use Rattle.bale.specs.Definitions.Calls.{WriteOutcome, writeRefusal, writeFile}
 
+-- settings of the numbers that are handed in
 abbrev pub settingsOf : (columns rows depth kernel : ℕ) → List ℕ → Settings
 settingsOf columns rows depth kernel bins = record { columns = columns; rows = rows; depth = depth; kernel = kernel; bins = bins }
 
@@ -45,7 +46,8 @@ module _ (s : Settings) (drierKind drierNumber pressKind pressNumber : ℕ) wher
 
   -- the file buffer afterwards
   unfoldable pub codedFile : List ℤ → List ℕ → List ℕ
-  codedFile levels file = leaves (codedRefusal levels (length file)) (writeFile s (noteOf drierKind drierNumber pressKind pressNumber) levels file .file) file
+  codedFile levels file =
+      leaves (codedRefusal levels (length file)) (writeFile s (noteOf drierKind drierNumber pressKind pressNumber) levels file .file) file
 
   -- the lent size afterwards
   unfoldable pub codedSize : List ℤ → ℕ → ℕ → ℕ
