@@ -9,6 +9,7 @@ pub mod FileLengths
 pub mod AcceptedFiles
 pub mod SettingsTrips
 pub mod RoundTrips
+pub mod Archive
 pub mod CodedFiles
 pub mod Totality
 pub mod SectionTests

@@ -13,10 +13,9 @@ use Rattle.bale.specs.declared.Reading.{Reading}
 use Rattle.bale.specs.declared.Note.{Note}
 use Rattle.bale.specs.declared.Probe.{Probe}
 use Rattle.bale.specs.Definitions.Words.{le16, le32, u16At, u32At}
-use Rattle.bale.specs.Definitions.Readings.{codeOf, readingOk, noteOk, readingBytes}
+use Rattle.bale.specs.Definitions.Readings.{HeldReading, codeOf, readingOk, noteOk, readingBytes}
 use Rattle.bale.specs.Definitions.Files.{readingsSection}
 use Rattle.bale.specs.Definitions.Reader.{readingsPlace, drierPlace, pressPlace, probeAt, noteIn, readingsSectionRefusal}
-use Rattle.bale.specs.Theorems.RoundTrips.{HeldReading}
 use Rattle.bale.proofs.Stands.{Stands, stands-front, stands-back, stands-join}
 use Rattle.bale.proofs.WordLaws.{digits32, bytes32}
 use Rattle.bale.proofs.Readings.{decode-code, number-small, code-decode}

@@ -17,8 +17,7 @@ use Rattle.bale.specs.declared.Reading.the-variants.{NotFitted, Percenta
 use Rattle.bale.specs.declared.Note.{Note}
 use Rattle.bale.specs.declared.Code.{Code}
 use Rattle.bale.specs.declared.Probe.{Probe}
-use Rattle.bale.specs.Definitions.Readings.{percentageOk, faultOk, codeWhere, codeOf, readingOk, noteOk, probeWhere, decode}
-use Rattle.bale.specs.Theorems.RoundTrips.{HeldReading}
+use Rattle.bale.specs.Definitions.Readings.{percentageOk, faultOk, HeldReading, codeWhere, codeOf, readingOk, noteOk, probeWhere, decode}
 
 abbrev hundred : Float
 hundred = ofBits binary32 0x42C8_0000

@@ -4,3 +4,4 @@ pub mod Sections
 pub mod Files
 pub mod Reader
 pub mod Calls
+pub mod Copies

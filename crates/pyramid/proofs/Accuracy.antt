@@ -21,7 +21,7 @@ use Rattle.pyramid.specs.Theorems.Accuracy.{LevelsWithin, Accuracy}
 use Rattle.pyramid.proofs.Sizes.{last-zero}
 use Rattle.pyramid.proofs.Within.{NearAt, within}
 use Rattle.pyramid.specs.Inner.Accepted.{Accepted}
-use Rattle.pyramid.proofs.Refusals.{first-none, accepted-coding, leaves-new}
+use Rattle.pyramid.proofs.Refusals.{first-nil, first-none, first-pass, accepted-coding, leaves-new}
 use Rattle.pyramid.proofs.Buffers.{length-raster, raster-at, by-place, read-stack}
 
 -- ---- the clamp brings a value nearer to every byte
@@ -126,6 +126,23 @@ module _ (picture : List ℕ) (g : Generation) where
       go : (a : ℕ) → outcome picture g ≡ a → Step
       go zero e = record { same = rw e (size e); near′ = rw e (moved e bytes); bytes = rw e (still-bytes e) }
       go (suc n) e = record { same = rw e refl; near′ = rw e (λ q. omega arith); bytes = rw e bytes }
+
+-- ---- a rebuilding from the levels of a coding, both accepted
+
+module _ (s : Settings) (picture : List ℕ) (levels work : List ℤ) (target : List ℕ) (targetWork : List ℤ)
+    (coded : coding s picture levels work .answer ≡ 0) (rebuilt : rebuilding s (coding s picture levels work .levels) target targetWork .answer ≡ 0) where
+  abbrev generation : Generation
+  generation = record { settings = s; levels = levels; work = work; target = target; targetWork = targetWork }
+
+  accepted : outcome picture generation ≡ 0
+  unfolding outcome
+  accepted = first-pass _ coded (first-pass _ rebuilt first-nil)
+
+  pub rebuilt-near : Bytes picture → (q : ℕ) → distance (getD (rebuilding s (coding s picture levels work .levels) target targetWork .picture) q 0) (getD picture q 0) ≤ boundAt s 0
+  rebuilt-near = moved picture generation accepted
+
+  pub rebuilt-bytes : Bytes (rebuilding s (coding s picture levels work .levels) target targetWork .picture)
+  rebuilt-bytes = still-bytes picture generation accepted
 
 -- ---- the list
 

@@ -3,7 +3,7 @@
 use mathlib.Core.Path.{_≡_, sym, ap, _∙_}
 use mathlib.Core.Bool.{Bool, true, false}
 use mathlib.Core.List.{List, [], _∷_, append-nil}
-use Prim.Native.Nat.{ℕ, _≤_, _<_}
+use Prim.Native.Nat.{ℕ, _*_, _≤_, _<_}
 use native.Mathlib.Omega.{arith}
 use lib.Dec.{T, leb, le→leb}
 use lib.IntN.{ℤ, natAbs}
@@ -17,7 +17,7 @@ use Rattle.pyramid.specs.Definitions.Refusals.{unless, first, limit, set
 use Rattle.pyramid.specs.Definitions.Calls.{coding, rebuilding}
 use Rattle.pyramid.specs.Inner.Ranges.{CodingRanges}
 use Rattle.pyramid.specs.Inner.Accepted.{Accepted}
-use Rattle.pyramid.proofs.Refusals.{first-none, accepted-coding, rebuilding-lengths, leaves-new}
+use Rattle.pyramid.proofs.Refusals.{first-none, accepted-coding, buffers-accepted, rebuilding-lengths, leaves-new}
 use Rattle.pyramid.proofs.Buffers.{length-all, read-stack, all-stack}
 use Rattle.pyramid.proofs.Ranges.{coding-ranges}
 
@@ -68,6 +68,10 @@ module _ (s : Settings) (picture : List ℕ) (levels work : List ℤ) (bytes : B
     pub rebuilding-coded : rebuilding s left target targetWork .answer ≡ buffersRefusal s (length target) (length levels) (length targetWork)
     unfolding rebuilding
     rebuilding-coded = rebuilding-lengths s left target targetWork coded-settings coded-values ∙ ap (λ (n : ℕ). buffersRefusal s (length target) n (length targetWork)) coded-length
+
+    -- with a picture and a work buffer of right lengths it is accepted
+    pub rebuilding-accepts : length target ≡ s .rows * s .columns → total s ≤ length targetWork → rebuilding s left target targetWork .answer ≡ 0
+    rebuilding-accepts long room = rebuilding-coded ∙ buffers-accepted s (record { picture-is = long; levels-is = call .sized .levels-is; work-least = room })
 
     pub never-eleven : rebuilding s left target targetWork .answer ≡ 11 → ⊥
     unfolding buffersRefusal

@@ -4,6 +4,7 @@ use mathlib.Core.Bool.{Bool, true, false}
 use mathlib.Core.List.{List, [], _∷_, _++_}
 use Prim.Native.Nat.{ℕ, zero, suc, _*_}
 use native.Mathlib.Omega.{arith}
+use borrow.Author.Tests.{eq-eqb, le-leb}
 use lib.Dec.{T, leb, eqb, leb→le, eqb→eq}
 use lib.IntN.{ℤ}
 use lib.ListN.{length}
@@ -167,6 +168,12 @@ module _ (s : Settings) where
         levels-is = eqb→eq levels (total s) (unless-none (eqb levels (total s)) 5 six);
         work-least = leb→le (total s) work (unless-none (leb (total s) work) 6 (first-none _ _ e₇ .0));
       }
+
+  pub buffers-accepted : {picture levels work : ℕ} → Sized s picture levels work → buffersRefusal s picture levels work ≡ 0
+  unfolding buffersRefusal
+  buffers-accepted z =
+      first-pass _ (unless-passes 5 (eq-eqb _ _ (z .picture-is)))
+      (first-pass _ (unless-passes 6 (eq-eqb _ _ (z .levels-is))) (first-pass _ (unless-passes 7 (le-leb _ _ (z .work-least))) first-nil))
 
   pub accepted-coding : (picture : List ℕ) (levels work : List ℤ) → codingRefusal s picture levels work ≡ 0 → Accepted s picture levels work
   unfolding codingRefusal

@@ -2,9 +2,9 @@
 -- code (2). Assumes nothing.
 use mathlib.Core.Bool.{Bool, true, false, _&&_}
 use mathlib.Core.List.{List, _∷_}
-use Prim.Native.Nat.{ℕ, zero, suc}
-use lib.Dec.{leb, ltb, eqb}
-use lib.Ieee.{Float, binary32, le, toBits, ofBits}
+use Prim.Native.Nat.{ℕ, zero, suc, _*_, _<_}
+use lib.Dec.{T, leb, ltb, eqb}
+use lib.Ieee.{Float, binary32, fits, le, toBits, ofBits}
 use Rattle.pyramid.specs.Definitions.Refusals.{unless}
 use Rattle.pyramid.specs.Definitions.Calls.{leaves}
 use Rattle.bale.specs.declared.Reading.{Reading}
@@ -21,6 +21,12 @@ percentageOk bits x = ltb bits 0x8000_0000 && le x (ofBits binary32 0x42C8_0000)
 -- a fault code is 1 to 255
 unfoldable pub faultOk : ℕ → Bool
 faultOk code = leb 1 code && leb code 255
+
+-- what the types of a reading say of it: an f32 is a value of its format, and a u32 has 32 bits
+abbrev pub HeldReading : Reading → Type 0
+HeldReading NotFitted = Unit {0}
+HeldReading (Percentage x) = T (fits binary32 x)
+HeldReading (Fault code) = code < 2 * 0x8000_0000
 
 -- ---- as it is written
 

@@ -1,9 +1,8 @@
 -- Demand 2 about the file: what is written is read back as it was, and a file that is read is written again byte for byte. Assumes nothing.
 use mathlib.Core.Path.{_≡_}
 use mathlib.Core.List.{List, _++_}
-use Prim.Native.Nat.{ℕ, _*_, _≤_, _<_}
+use Prim.Native.Nat.{ℕ, _≤_}
 use lib.Dec.{T}
-use lib.Ieee.{binary32, fits}
 use lib.IntN.{ℤ, pos}
 use lib.ListN.{length, getD, drop}
 use mir.Syntax.{w16}
@@ -12,20 +11,12 @@ use Rattle.pyramid.specs.declared.Settings.{Settings}
 use Rattle.pyramid.specs.Definitions.Sizes.{total}
 use Rattle.pyramid.specs.Definitions.Buffers.{Bytes}
 use Rattle.pyramid.specs.Definitions.Calls.{coding}
-use Rattle.bale.specs.declared.Reading.{Reading}
-use Rattle.bale.specs.declared.Reading.the-variants.{NotFitted, Percentage, Fault}
 use Rattle.bale.specs.declared.Note.{Note}
-use Rattle.bale.specs.Definitions.Readings.{noteOk}
+use Rattle.bale.specs.Definitions.Readings.{HeldReading, noteOk}
 use Rattle.bale.specs.Definitions.Files.{fileOf, fileLength}
 use Rattle.bale.specs.Definitions.Calls.{writeRefusal, writeFile, readRefusal, readFile}
 
 -- ---- what the types of the arguments say of them, and no more
-
--- an f32 is a value of its format, and a u32 has 32 bits
-abbrev pub HeldReading : Reading → Type 0
-HeldReading NotFitted = Unit {0}
-HeldReading (Percentage x) = T (fits binary32 x)
-HeldReading (Fault code) = code < 2 * 0x8000_0000
 
 pub record Held (s : Settings) (note : Note) (levels : List ℤ) : Type 0 where
   pub seven : length (s .bins) ≡ 7
