@@ -3,11 +3,14 @@
 use mathlib.Core.Path.{_≡_, refl, sym, ap, _∙_, subst}
 use mathlib.Core.List.{List, [], _∷_, _++_}
 use Prim.Native.Nat.{ℕ, zero, suc, _+_, _*_, _≤_}
+use mathlib.Core.Logic.{⊎-elim}
 use native.Mathlib.Nat.{le-refl, add-zero}
+use native.Mathlib.Decide.{ℕ-discrete}
 use native.Mathlib.Omega.{arith}
 use lib.Dec.{T}
 use lib.IntN.{ℤ, pos}
-use lib.ListN.{length, getD, take, drop, replicate}
+use lib.ListN.{length, getD, take, drop, replicate, length-replicate}
+use lib.Seq.{take-at}
 use Rattle.mathematics.specs.Definitions.Distances.{distance}
 use Rattle.pyramid.specs.declared.Settings.{Settings}
 use Rattle.pyramid.specs.Definitions.Sizes.{total}
@@ -26,11 +29,19 @@ use Rattle.bale.specs.Definitions.Calls.{WriteOutcome, ReadOutcome, writ
 use Rattle.bale.specs.Definitions.Copies.{Filing, Copy, writtenBytes, firstCoded, firstWritten, filingRefusal, source, shown, recoded, rewritten, copyRefusal, copied, copyBound, fileAfter, copiesSum}
 use Rattle.bale.specs.Theorems.RoundTrips.{Held, WrittenIsRead}
 use Rattle.bale.specs.Theorems.Archive.{ShownWithin, Shows, Archive}
-use Rattle.bale.proofs.AcceptedFiles.{accepted-writing, accepted-file}
+use Rattle.bale.proofs.AcceptedFiles.{AcceptedWriting, accepted-writing, accepted-file}
+use Rattle.bale.proofs.FileLengths.{length-file}
 use Rattle.bale.proofs.Answers.{writing-refusal, writing-is, reading-is}
 use Rattle.bale.proofs.RoundTrips.{written-then-read}
 use Rattle.bale.proofs.CodedFiles.{coded-then-written, coded-short}
 use Rattle.bale.proofs.Totality.{reading-is-total}
+
+-- a picture near another that is near the first
+nearer : (a b c : ℕ) {e within : ℕ} → distance b c + e ≤ within → distance a b ≤ e → distance a c ≤ within
+nearer a b c f g = omega arith
+
+farther : (n : ℕ) {d within : ℕ} → d ≤ within → d + n ≤ within + n
+farther n f = omega arith
 
 -- what is read of a file that is accepted
 module _ (bytes : List ℕ) (lent : List ℤ) where
@@ -41,15 +52,17 @@ module _ (bytes : List ℕ) (lent : List ℤ) where
   -- the two readers agree
   checked-is : readRefusal bytes (length lent) ≡ 0 → readFile bytes lent .answer ≡ checkFile bytes
   unfolding readFile checkFile
-  checked-is e = ap (baleOf bytes) (reading-is-total bytes .same (length lent) (accepted-file bytes (length lent) e .places-are))
+  checked-is e = ap (baleOf bytes) (⊎-elim (λ six. absurd (omega (arith, e, six))) (λ same. same) (reading-is-total bytes .differ (length lent)))
 
 -- the bytes of a file that is written
-written-bytes : (s : Settings) (note : Note) (levels : List ℤ) (file : List ℕ) → length (fileOf s note levels) ≡ fileLength s
-    → writeFile s note levels file .answer .refusal ≡ 0 → writtenBytes (writeFile s note levels file) ≡ fileOf s note levels
-written-bytes s note levels file long e = rw (writing-is s note levels file (sym (writing-refusal s note levels file) ∙ e)) (take-all (fileOf s note levels) (fileLength s) (drop (fileLength s) file) long)
-  where
-    take-all : (xs : List ℕ) (n : ℕ) (ys : List ℕ) → length xs ≡ n → take n (xs ++ ys) ≡ xs
-    take-all xs n ys e = ?
+module _ (s : Settings) (note : Note) (levels : List ℤ) (file : List ℕ) (e : writeFile s note levels file .answer .refusal ≡ 0) where
+  written-accepted : AcceptedWriting s note levels (length file)
+  written-accepted = accepted-writing s note levels (length file) (sym (writing-refusal s note levels file) ∙ e)
+
+  written-bytes : writtenBytes (writeFile s note levels file) ≡ fileOf s note levels
+  written-bytes =
+      rw (writing-is s note levels file (sym (writing-refusal s note levels file) ∙ e))
+      (take-at (fileOf s note levels) (drop (fileLength s) file) (fileLength s) (length-file s note levels (written-accepted .long)))
 
 -- the first picture, and its note, whose readings are lawful
 module _ (first : List ℕ) (note : Note) (noted : T (noteOk note)) (drier : HeldReading (note .«before_drier»)) (press : HeldReading (note .«at_press»)) where
@@ -73,7 +86,7 @@ module _ (first : List ℕ) (note : Note) (noted : T (noteOk note)) (drier : Hel
     m = coding s (h .picture) (h .levels) (h .work) .levels
 
     held : Held s note m
-    held = record { seven = h .seven; drier = drier; press = press; short = coded-short s (h .picture) (h .levels) (h .work) (h .legal) (h .coded) }
+    held = record { seven = h .seven; drier = drier; press = press; short = coded-short s (h .picture) (h .levels) (h .work) (h .coded) (h .legal) }
 
     trip : WrittenIsRead s note m
     trip = written-then-read s note m (fileLength s) held (coded-then-written s note (h .picture) (h .levels) (h .work) (fileLength s) (h .legal) (h .coded) noted (le-refl (fileLength s)))
@@ -82,13 +95,13 @@ module _ (first : List ℕ) (note : Note) (noted : T (noteOk note)) (drier : Hel
     whole = record { answer = record { refusal = 0; settings = s; note = note }; levels = m }
 
     read-is : (lent : List ℤ) → length lent ≡ total s → readFile bytes lent ≡ whole
-    read-is lent e = rw (h .is) (trip .read lent e)
+    read-is lent e = ap (λ (b : List ℕ). readFile b lent) (h .is) ∙ trip .read lent e
 
     abbrev some : List ℤ
     some = replicate (total s) (pos 0)
 
     some-long : length some ≡ total s
-    some-long = ?
+    some-long = length-replicate (total s) (pos 0)
 
     accepted : (lent : List ℤ) → length lent ≡ total s → readRefusal bytes (length lent) ≡ 0
     accepted lent e = sym (read-refusal bytes lent) ∙ ap (λ (r : ReadOutcome). r .answer .refusal) (read-is lent e)
@@ -103,15 +116,66 @@ module _ (first : List ℕ) (note : Note) (noted : T (noteOk note)) (drier : Hel
     lent-long : (lent : List ℤ) → readFile bytes lent .answer .refusal ≡ 0 → length lent ≡ total s
     lent-long lent e = accepted-file bytes (length lent) (sym (read-refusal bytes lent) ∙ e) .places-are ∙ ap total settings-are
 
+    -- what it shows, to whoever lends buffers of right lengths
+    module _ (levels : List ℤ) (picture : List ℕ) (work : List ℤ) (long : length levels ≡ total s) (pixels : length picture ≡ s .rows * s .columns) (room : total s ≤ length work) where
+      rebuilds : rebuilding s m picture work .answer ≡ 0
+      rebuilds = rebuilding-accepts s (h .picture) (h .levels) (h .work) (h .legal) (h .coded) picture work pixels room
+
+      one : ShownWithin first within bytes levels picture work
+      one = record {
+        read = ap (λ (r : ReadOutcome). r .answer) (read-is levels long) ∙ sym checked;
+        rebuilt = rw (checked, read-is levels long) rebuilds;
+        moved = λ p. rw (checked, read-is levels long)
+            (nearer _ (getD (h .picture) p 0) (getD first p 0) (h .near p) (rebuilt-near s (h .picture) (h .levels) (h .work) picture work (h .coded) rebuilds (h .legal) p));
+      }
+
     shows : Shows first note within bytes
-    shows = rw checked (record { accepted = refl; readings = refl; shown = λ levels picture work long pixels room. one levels picture work long pixels room })
-      where
-        one : (levels : List ℤ) (picture : List ℕ) (work : List ℤ) → length levels ≡ total s → length picture ≡ s .rows * s .columns → total s ≤ length work
-            → ShownWithin first within bytes levels picture work
-        one levels picture work long pixels room = ?
+    shows = record {
+      accepted = ap (λ (b : Bale). b .refusal) checked;
+      readings = ap (λ (b : Bale). b .note) checked;
+      shown = λ levels picture work long pixels room. one levels picture work (long ∙ ap (λ (b : Bale). total (b .settings)) checked)
+          (pixels ∙ ap (λ (b : Bale). b .settings .rows * b .settings .columns) checked) (subst (λ (b : Bale). total (b .settings) ≤ length work) checked room);
+    }
+
+    -- an accepted copy: what was shown was coded and written
+    module _ (c : Copy) (e₁ : source bytes c .answer .refusal ≡ 0) (e₂ : shown bytes c .answer ≡ 0) (e₃ : recoded bytes c .answer ≡ 0) (e₄ : rewritten bytes c .answer .refusal ≡ 0) where
+      found : source bytes c ≡ whole
+      found = read-is (c .read) (lent-long (c .read) e₁)
+
+      back : (P : ReadOutcome → Type 0) → P whole → P (source bytes c)
+      back P = subst P (sym found)
+
+      rebuilt-ok : rebuilding s m (c .picture) (c .work) .answer ≡ 0
+      rebuilt-ok = subst (λ (r : ReadOutcome). rebuilding (r .answer .settings) (r .levels) (c .picture) (c .work) .answer ≡ 0) found e₂
+
+      accepted-copy : Holds (within + boundAt (c .settings) 0) (writtenBytes (rewritten bytes c))
+      accepted-copy = record {
+        settings = c .settings;
+        picture = shown bytes c .picture;
+        levels = c .levels;
+        work = c .codingWork;
+        legal = back (λ r. Bytes (rebuilding (r .answer .settings) (r .levels) (c .picture) (c .work) .picture)) (rebuilt-bytes s (h .picture) (h .levels) (h .work) (c .picture) (c .work) (h .coded) rebuilt-ok);
+        seven = c .seven;
+        coded = e₃;
+        is = written-bytes (c .settings) (source bytes c .answer .note) (recoded bytes c .levels) (c .file) e₄
+            ∙ ap (λ (r : ReadOutcome). fileOf (c .settings) (r .answer .note) (recoded bytes c .levels)) found;
+        near = λ p. farther (boundAt (c .settings) 0)
+            (back (λ r. distance (getD (rebuilding (r .answer .settings) (r .levels) (c .picture) (c .work) .picture) p 0) (getD first p 0) ≤ within)
+            (nearer _ (getD (h .picture) p 0) (getD first p 0) (h .near p) (rebuilt-near s (h .picture) (h .levels) (h .work) (c .picture) (c .work) (h .coded) rebuilt-ok (h .legal) p)));
+      }
 
     step : (c : Copy) → Holds (within + copyBound bytes c) (copied bytes c)
-    step c = ?
+    unfolding copyRefusal copied copyBound
+    step c = go (ℕ-discrete (copyRefusal bytes c) 0)
+      where
+        go : Dec (copyRefusal bytes c ≡ 0) → Holds (within + copyBound bytes c) (copied bytes c)
+        go (yes e) =
+            let (e₁, r₁) = first-none _ _ e in
+            let (e₂, r₂) = first-none _ _ r₁ in
+            let (e₃, r₃) = first-none _ _ r₂ in
+            rw (leaves-new _ (writtenBytes (rewritten bytes c)) bytes e, leaves-new _ (boundAt (c .settings) 0) 0 e) (accepted-copy c e₁ e₂ e₃ (first-none _ _ r₃ .0))
+        go (no refused) =
+            rw (leaves-kept _ (writtenBytes (rewritten bytes c)) bytes refused, leaves-kept _ (boundAt (c .settings) 0) 0 refused, add-zero within) h
 
   after : (copies : List Copy) {within : ℕ} {bytes : List ℕ} → Holds within bytes → Holds (within + copiesSum bytes copies) (fileAfter bytes copies)
   unfolding fileAfter copiesSum
@@ -121,4 +185,21 @@ module _ (first : List ℕ) (note : Note) (noted : T (noteOk note)) (drier : Hel
       subst (λ (n : ℕ). Holds n (fileAfter (copied bytes c) later)) e (after later (step h c))
 
 pub archive : Archive
-archive f copies ok = ?
+unfolding filingRefusal
+archive f copies ok =
+    let (coded, r) = first-none _ _ ok in
+    let written = first-none _ _ r .0 in
+    let a = written-accepted (f .settings) (f .note) (firstCoded f .levels) (f .file) written in
+    shows (f .picture) (f .note) (a .noted) (f .drier) (f .press)
+    (after (f .picture) (f .note) (a .noted) (f .drier) (f .press) copies
+    (record {
+      settings = f .settings;
+      picture = f .picture;
+      levels = f .levels;
+      work = f .work;
+      legal = f .bytes;
+      seven = f .seven;
+      coded = coded;
+      is = written-bytes (f .settings) (f .note) (firstCoded f .levels) (f .file) written;
+      near = λ p. omega arith;
+    }))

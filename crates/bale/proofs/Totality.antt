@@ -1,14 +1,18 @@
--- Reading is total: each rule gives its own number or 0, so the first that is not 0 is one of them. Assumes nothing.
-use mathlib.Core.Path.{_≡_}
+-- Reading is total: each rule gives its own number or 0, so the first that is not 0 is one of them. No rule but the one of the level
+-- buffer's length gives 6. Assumes nothing.
+use mathlib.Core.Path.{_≡_, refl, sym, _∙_}
+use mathlib.Core.Logic.{_↔_, _≢_, _⊎_, inl, inr}
 use mathlib.Core.Bool.{Bool, true, false, cond}
-use mathlib.Core.List.{List}
+use mathlib.Core.List.{List, [], _∷_}
 use Prim.Native.Nat.{ℕ, zero, suc, _+_, _*_}
+use native.Mathlib.Omega.{arith}
+use borrow.Author.Tests.{ne-eqb}
 use lib.Dec.{T, eqb}
 use lib.ListN.{getD}
 use Rattle.pyramid.specs.declared.Settings.{Settings}
 use Rattle.pyramid.specs.Definitions.Sizes.{nodesAt, total}
-use Rattle.pyramid.specs.Definitions.Refusals.{shapeRefusal}
-use Rattle.pyramid.proofs.Refusals.{first-over, unless-holds, unless-elim, first-elim, last-elim, shape-elim}
+use Rattle.pyramid.specs.Definitions.Refusals.{unless, first, shapeRefusal}
+use Rattle.pyramid.proofs.Refusals.{first-last, first-skip, answers-fails, unless-holds, unless-elim, first-elim, last-elim, shape-elim}
 use Rattle.bale.specs.Definitions.Words.{u32At}
 use Rattle.bale.specs.Definitions.Readings.{probeWhere, decode}
 use Rattle.bale.specs.Definitions.Sections.{sectionRefusal}
@@ -16,6 +20,19 @@ use Rattle.bale.specs.Definitions.Reader.{settingsIn, probeAt, shapeSect
 use Rattle.bale.specs.Definitions.Calls.{readRefusal, checkRefusal}
 use Rattle.bale.specs.Theorems.Totality.{oneOf, checkNumbers, readNumbers, ReadingIsTotal}
 use Rattle.bale.proofs.Sections.{eqb-of}
+
+-- a rule of number 6 between two others: it gives 6 or changes nothing, and where the others don't give 6, it does
+with-six : (x : ℕ) (holds : Bool) (y : ℕ) → (first (x ∷ unless holds 6 ∷ y ∷ []) ≡ 6) ⊎ (first (x ∷ unless holds 6 ∷ y ∷ []) ≡ first (x ∷ y ∷ []))
+unfolding first unless
+with-six zero true y = inr refl
+with-six zero false y = inl refl
+with-six (suc x) holds y = inr refl
+
+middle : (x y z : ℕ) → x ≢ 6 → z ≢ 6 → first (x ∷ y ∷ z ∷ []) ≡ 6 → (x ≡ 0) × (y ≡ 6)
+unfolding first
+middle zero zero z hx hz e = absurd (hz (sym (first-last z) ∙ e))
+middle zero (suc y) z hx hz e = (refl, e)
+middle (suc x) y z hx hz e = absurd (hx e)
 
 module _ (bytes : List ℕ) where
   abbrev P : ℕ → Type 0
@@ -78,17 +95,33 @@ module _ (bytes : List ℕ) where
       cases true = tt
       cases false = h
 
-  abbrev Q : ℕ → Type 0
-  Q n = T (oneOf readNumbers n)
+  -- ---- with a level buffer
 
-  read : (places : ℕ) → Q (readRefusal bytes places)
-  unfolding readRefusal oneOf
-  read places =
-      first-elim Q tt _ _ (wider (shapeSectionRefusal bytes) shape-section) (first-elim Q tt _ _ (unless-elim Q tt _ 6 tt) (last-elim Q tt _ (wider (bodyRefusal bytes) body)))
-
-  same : (places : ℕ) → places ≡ total (settingsIn bytes) → readRefusal bytes places ≡ checkRefusal bytes
+  differ : (places : ℕ) → (readRefusal bytes places ≡ 6) ⊎ (readRefusal bytes places ≡ checkRefusal bytes)
   unfolding readRefusal checkRefusal
-  same places e = rw (unless-holds (eqb places (total (settingsIn bytes))) 6 (eqb-of e)) (first-over _ _)
+  differ places = with-six (shapeSectionRefusal bytes) (eqb places (total (settingsIn bytes))) (bodyRefusal bytes)
+
+  read : (places : ℕ) → T (oneOf readNumbers (readRefusal bytes places))
+  unfolding oneOf
+  read places = cases (differ places)
+    where
+      cases : (readRefusal bytes places ≡ 6) ⊎ (readRefusal bytes places ≡ checkRefusal bytes) → T (oneOf readNumbers (readRefusal bytes places))
+      cases (inl e) = rw e tt
+      cases (inr e) = rw e (wider (checkRefusal bytes) checked)
+
+  not-six : {n : ℕ} → P n → n ≢ 6
+  unfolding oneOf
+  not-six h e = rw e at h
+
+  wrong-places : (places : ℕ) → readRefusal bytes places ≡ 6 → (shapeSectionRefusal bytes ≡ 0) × (places ≢ total (settingsIn bytes))
+  unfolding readRefusal
+  wrong-places places e =
+      let (shape, own) = middle (shapeSectionRefusal bytes) _ (bodyRefusal bytes) (not-six shape-section) (not-six body) e in
+      (shape, λ same. omega (arith, own, unless-holds (eqb places (total (settingsIn bytes))) 6 (eqb-of same)))
+
+  six : (places : ℕ) → (readRefusal bytes places ≡ 6) ↔ ((shapeSectionRefusal bytes ≡ 0) × (places ≢ total (settingsIn bytes)))
+  unfolding readRefusal
+  six places = (wrong-places places, λ h. first-skip _ _ (h .0) ∙ sym (answers-fails _ (ne-eqb _ _ (h .1))))
 
 pub reading-is-total : (bytes : List ℕ) → ReadingIsTotal bytes
-reading-is-total bytes = record { checked = checked bytes; read = read bytes; same = same bytes }
+reading-is-total bytes = record { checked = checked bytes; read = read bytes; differ = differ bytes; six = six bytes }

@@ -1,7 +1,7 @@
 -- What is read from a raster and from a buffer of all levels is what was put there; lengths, and tests of all elements. Assumes nothing.
 use mathlib.Core.Path.{_≡_, refl, sym, ap, _∙_, subst}
 use mathlib.Core.Bool.{Bool}
-use mathlib.Core.List.{List, [], _++_, append-assoc, append-nil}
+use mathlib.Core.List.{List, [], _∷_, _++_, append-assoc, append-nil}
 use Prim.Native.Nat.{ℕ, zero, suc, _+_, _-_, _*_, _/_, _%_, _≤_, _<_}
 use native.Mathlib.Nat.{zero-mul, suc-mul, mul-le-mul, mul-le-mul-right, not-suc-le-zero, div-add-mod', mod-lt, div-lt-iff-lt-mul}
 use native.Mathlib.Decide.{decLt, decLe}
@@ -12,7 +12,7 @@ use lib.ListN.{length, getD, length-append, List·getD-append}
 use lib.Seq.{getD-append-add}
 use Rattle.mathematics.specs.Definitions.Tests.{all}
 use Rattle.mathematics.specs.Definitions.Tables.{tabulate}
-use Rattle.mathematics.proofs.Tests.{all-nil, all-append, all-front, all-back}
+use Rattle.mathematics.proofs.Tests.{both, all-nil, all-append, all-front, all-back}
 use Rattle.mathematics.proofs.Tables.{length-tabulate, getD-tabulate, tabulate-same, all-tabulate, tabulate-all}
 use Rattle.pyramid.specs.declared.Settings.{Settings}
 use Rattle.pyramid.specs.Definitions.Sizes.{Level, columnsAt, rowsAt, nodesAt, nodesTo, total}
@@ -77,6 +77,13 @@ pub by-place : (columns rows : ℕ) (P : ℕ → Type 0) → 0 < columns → ((i
 by-place columns rows P h f p k = subst P (div-add-mod' p columns) (f (p % columns) (p / columns) (mod-lt p h) (div-lt-iff-lt-mul h .1 k))
 
 module _ {A : Type 0} (test : A → Bool) where
+  -- what all elements pass, and what is found past the end too, passes at each place
+  pub all-at : (d : A) → T (test d) → (xs : List A) → T (all test xs) → (p : ℕ) → T (test (getD xs p d))
+  unfolding all
+  all-at d past [] t p = past
+  all-at d past (x ∷ xs) t zero = both (test x) (all test xs) t .0
+  all-at d past (x ∷ xs) t (suc p) = all-at d past xs (both (test x) (all test xs) t .1) p
+
   pub all-raster : (columns rows : ℕ) (f : ℕ → ℕ → A) → ((i j : ℕ) → i < columns → j < rows → T (test (f i j))) → T (all test (raster columns rows f))
   unfolding raster
   all-raster columns zero f h = rw (all-nil test) tt

@@ -1,13 +1,13 @@
--- Levels from an accepted coding are never turned down with 11: rebuilding them answers what the lengths of its own buffers say.
--- Assumes nothing.
+-- Levels from an accepted coding are never turned down with 11: rebuilding them answers what the lengths of its own buffers say. Each of
+-- their indices lies within 4,096. Assumes nothing.
 use mathlib.Core.Path.{_≡_, sym, ap, _∙_}
 use mathlib.Core.Bool.{Bool, true, false}
 use mathlib.Core.List.{List, [], _∷_, append-nil}
 use Prim.Native.Nat.{ℕ, _*_, _≤_, _<_}
 use native.Mathlib.Omega.{arith}
-use lib.Dec.{T, leb, le→leb}
-use lib.IntN.{ℤ, natAbs}
-use lib.ListN.{length}
+use lib.Dec.{T, leb, leb→le, le→leb}
+use lib.IntN.{ℤ, pos, natAbs}
+use lib.ListN.{length, getD}
 use Rattle.pyramid.specs.declared.Settings.{Settings}
 use Rattle.pyramid.specs.Definitions.Sizes.{columnsAt, rowsAt, total}
 use Rattle.pyramid.specs.Definitions.Pyramid.{index}
@@ -18,7 +18,7 @@ use Rattle.pyramid.specs.Definitions.Calls.{coding, rebuilding}
 use Rattle.pyramid.specs.Inner.Ranges.{CodingRanges}
 use Rattle.pyramid.specs.Inner.Accepted.{Accepted}
 use Rattle.pyramid.proofs.Refusals.{first-none, accepted-coding, buffers-accepted, rebuilding-lengths, leaves-new}
-use Rattle.pyramid.proofs.Buffers.{length-all, read-stack, all-stack}
+use Rattle.pyramid.proofs.Buffers.{all-at, length-all, read-stack, all-stack}
 use Rattle.pyramid.proofs.Ranges.{coding-ranges}
 
 -- the numbers that the lengths of buffers can give
@@ -57,6 +57,15 @@ module _ (s : Settings) (picture : List ℕ) (levels work : List ℤ) (bytes : B
   coded-values =
       all-stack s (λ v. leb (natAbs v) limit) (λ l i j. valueOf s l (readLevels s left l i j)) (s .depth)
       (λ l i j hl hi hj. rw (read-left l i j hl hi hj) (le→leb _ limit (ranges .values l hl i j hi hj)))
+
+  -- by its place in the buffer; past the end 0 is read
+  pub coded-small : (p : ℕ) → natAbs (getD left p (pos 0)) ≤ limit
+  coded-small p =
+      rw left-is
+      (leb→le _ limit
+      (all-at (λ v. leb (natAbs v) limit) (pos 0) tt (allLevels s (index s (pixels (s .columns) picture)))
+      (all-stack s (λ v. leb (natAbs v) limit) (index s (pixels (s .columns) picture)) (s .depth) (λ l i j hl hi hj. le→leb _ limit (ranges .indices l hl i j hi hj)))
+      p))
 
   pub coded-total : length left ≡ total s
   coded-total = ap length left-is ∙ length-all s (index s (pixels (s .columns) picture))
