@@ -1,6 +1,6 @@
 // Rounding and the bin rule (document 01, "Pyramid steps"), for 32-bit sums and values and 16-bit divisors and bins.
 ghost use mathlib.Core.Path.{_≡_};
-ghost use mathlib.Core.Bool.{true};
+ghost use mathlib.Core.Bool.{true, false};
 ghost use Prim.Native.Nat.{_≤_, _<_};
 ghost use lib.IntN.{pos, natAbs, _+ℤ_};
 ghost use Rattle.quantizer.specs.Definitions.Rounding.{roundDiv};
@@ -41,7 +41,7 @@ pub fn reciprocal(bin: u16) -> u32
 
 // Whether a multiplication by the factor can stand for a division by the bin.
 fn is_reciprocal(bin: u16, factor: u32) -> bool
-    ensures { λ r. ⌜ (r ≡ true → ReciprocalFactor bin factor) ⌝ }
+    ensures { λ r. ⌜ (r ≡ true → ReciprocalFactor bin factor) × (r ≡ false → ReciprocalFactor bin factor → ⊥) ⌝ }
 {
     if bin < 256 {
         let product = factor as u64 * bin as u64;

@@ -24,7 +24,7 @@ multiply-requires c κs =
     let i = c .before .before .before in
     let x = held (i .before .before .args .value) in
     let a = abs-between 8192 (negsuc 8191) x (pos 8192) (leZ-true (c .before .if3 .taken)) (leZ-true (c .if4 .taken)) (omega arith) (omega arith) in
-    ((omega arith, a), i .is-reciprocal .ensures (c .before .before .if2 .taken))
+    ((omega arith, a), i .is-reciprocal .ensures .0 (c .before .before .if2 .taken))
 
 returns-2 : tie.Need-returns-2
 returns-2 c =
