@@ -78,10 +78,8 @@ fn reduce_node(
         +ℤ w1 *ℤ (getD (now (sums .entry)) b (pos 0) +ℤ getD (now (sums .entry)) d (pos 0))
         +ℤ w0 *ℤ getD (now (sums .entry)) c (pos 0)) 400 ⌝ }
 {
-    quantizer::round_div(
-        taps::five(sums[a], sums[b], sums[c], sums[d], sums[e], w0, w1, w2),
-        400,
-    )
+    let sum = taps::five(sums[a], sums[b], sums[c], sums[d], sums[e], w0, w1, w2);
+    quantizer::round_div(sum, 400)
 }
 
 // A row of the next level from `at` on, along the sums of a level whose last column is `last`.
