@@ -1,3 +1,4 @@
 pub mod Accuracy
 pub mod WorkedPieces
 pub mod Ranges
+pub mod Conditions
