@@ -42,3 +42,4 @@ pub mod ShapeAnswers
 pub mod Rules
 pub mod RuleTests
 pub mod Conditions
+pub mod Numbers

@@ -2,3 +2,4 @@ pub mod Accuracy
 pub mod WorkedPieces
 pub mod Ranges
 pub mod Conditions
+pub mod Numbers
