@@ -18,6 +18,7 @@ use Rattle.pyramid.specs.Definitions.Weights.{weights, weight, WeightRul
 use Rattle.pyramid.specs.Definitions.Steps.{evenWeight}
 use Rattle.pyramid.specs.Inner.Rows.{Within}
 use Rattle.pyramid.specs.Definitions.Bound.{hundredths}
+use Rattle.pyramid.specs.Theorems.Multiplier.{gain, Multipliers}
 use Rattle.pyramid.specs.Inner.Lawful.{Kernel}
 
 -- a test of the four kernels holds at each lawful one
@@ -117,20 +118,23 @@ at-column test t {k} h i =
 pub even-sum : {k : ℕ} → Kernel k → (i : ℕ) → sum 5 (evenWeight k i) ≡ pos 10
 even-sum {k} h i = is-eq (sum 5 (evenWeight k i)) (pos 10) (at-column (λ k a. is (sum 5 a) (pos 10)) (unfold allBelow is sum evenWeight weight weights in tt) h i)
 
--- 14 at most for kernel 6, 10 for the others; the square is the bound's multiplier in hundredths
-abbrev pub reach : ℕ → ℕ
-reach k = cond (eqb k 6) 14 10
+-- ---- EXPAND's gain, whose square is the bound's multiplier in hundredths
 
-pub even-size : {k : ℕ} → Kernel k → (i : ℕ) → size (evenWeight k i) ≤ reach k
+pub even-size : {k : ℕ} → Kernel k → (i : ℕ) → size (evenWeight k i) ≤ gain k
 even-size {k} h i =
-    leb→le (size (evenWeight k i)) (reach k) (at-column (λ k a. leb (size a) (reach k)) (unfold allBelow total evenWeight weight weights in tt) h i)
+    leb→le (size (evenWeight k i)) (gain k) (at-column (λ k a. leb (size a) (gain k)) (unfold allBelow total gain evenWeight weight weights in tt) h i)
 
-pub reach-square : {k : ℕ} → Kernel k → reach k * reach k ≤ hundredths k
-reach-square {k} h =
-    leb→le (reach k * reach k) (hundredths k) (at-kernel (λ k. leb (reach k * reach k) (hundredths k)) (unfold allBelow hundredths in tt) h)
+pub gain-square : {k : ℕ} → Kernel k → hundredths k ≡ gain k * gain k
+gain-square {k} h =
+    eqb→eq (hundredths k) (gain k * gain k)
+    (at-kernel (λ k. eqb (hundredths k) (gain k * gain k)) (unfold allBelow hundredths gain evenWeight weight weights in tt) h)
 
-pub reach-most : {k : ℕ} → Kernel k → reach k ≤ 14
-reach-most {k} h = leb→le (reach k) 14 (at-kernel (λ k. leb (reach k) 14) (unfold allBelow in tt) h)
+pub gain-most : {k : ℕ} → Kernel k → gain k ≤ 14
+gain-most {k} h = leb→le (gain k) 14 (at-kernel (λ k. leb (gain k) 14) (unfold allBelow gain evenWeight weight weights in tt) h)
+
+pub multipliers : Multipliers
+unfolding total
+multipliers k least most = let h : Kernel k = record { least = least; most = most } in record { most = λ i. omega (arith, even-size h i); square = gain-square h }
 
 pub hundredths-most : {k : ℕ} → Kernel k → hundredths k ≤ 196
 hundredths-most {k} h = leb→le (hundredths k) 196 (at-kernel (λ k. leb (hundredths k) 196) (unfold allBelow hundredths in tt) h)

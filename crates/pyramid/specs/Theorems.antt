@@ -3,3 +3,4 @@ pub mod WorkedPieces
 pub mod Ranges
 pub mod Conditions
 pub mod Numbers
+pub mod Multiplier
