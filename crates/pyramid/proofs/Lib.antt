@@ -43,3 +43,4 @@ pub mod Rules
 pub mod RuleTests
 pub mod Conditions
 pub mod Numbers
+pub mod Refused

@@ -4,3 +4,4 @@ pub mod Ranges
 pub mod Conditions
 pub mod Numbers
 pub mod Multiplier
+pub mod Refused
