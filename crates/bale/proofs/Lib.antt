@@ -16,3 +16,5 @@ pub mod Checks
 pub mod Writings
 pub mod Pieces
 pub mod Answers
+pub mod Conditions
+pub mod Numbers

@@ -2,7 +2,7 @@
 -- buffer's length gives 6. Assumes nothing.
 use mathlib.Core.Path.{_≡_, refl, sym, _∙_}
 use mathlib.Core.Logic.{_↔_, _≢_, _⊎_, inl, inr}
-use mathlib.Core.Bool.{Bool, true, false, cond}
+use mathlib.Core.Bool.{Bool, true, false}
 use mathlib.Core.List.{List, [], _∷_}
 use Prim.Native.Nat.{ℕ, zero, suc, _+_, _*_}
 use native.Mathlib.Omega.{arith}
@@ -11,14 +11,17 @@ use lib.Dec.{T, eqb}
 use lib.ListN.{getD}
 use Rattle.pyramid.specs.declared.Settings.{Settings}
 use Rattle.pyramid.specs.Definitions.Sizes.{nodesAt, total}
-use Rattle.pyramid.specs.Definitions.Refusals.{unless, first, shapeRefusal}
+use Rattle.pyramid.specs.Definitions.Refusals.{unless, first, oneOf, shapeRefusal}
+use Rattle.pyramid.specs.Theorems.Numbers.{Answers}
 use Rattle.pyramid.proofs.Refusals.{first-last, first-skip, answers-fails, unless-holds, unless-elim, first-elim, last-elim, shape-elim}
+use Rattle.pyramid.proofs.Rules.{one-between}
 use Rattle.bale.specs.Definitions.Words.{u32At}
 use Rattle.bale.specs.Definitions.Readings.{probeWhere, decode}
 use Rattle.bale.specs.Definitions.Sections.{sectionRefusal}
 use Rattle.bale.specs.Definitions.Reader.{settingsIn, probeAt, shapeSectionRefusal, binsSectionRefusal, readingsSectionRefusal, levelSectionRefusal, levelSectionsRefusal, bodyRefusal}
 use Rattle.bale.specs.Definitions.Calls.{readRefusal, checkRefusal}
-use Rattle.bale.specs.Theorems.Totality.{oneOf, checkNumbers, readNumbers, ReadingIsTotal}
+use Rattle.bale.specs.Theorems.Numbers.{checkNumbers, readNumbers}
+use Rattle.bale.specs.Theorems.Totality.{ReadingIsTotal}
 use Rattle.bale.proofs.Sections.{eqb-of}
 
 -- a rule of number 6 between two others: it gives 6 or changes nothing, and where the others don't give 6, it does
@@ -36,7 +39,7 @@ middle (suc x) y z hx hz e = absurd (hx e)
 
 module _ (bytes : List ℕ) where
   abbrev P : ℕ → Type 0
-  P n = T (oneOf checkNumbers n)
+  P n = Answers checkNumbers n
 
   section : (at count size : ℕ) → P (sectionRefusal bytes at count size)
   unfolding sectionRefusal oneOf
@@ -86,28 +89,19 @@ module _ (bytes : List ℕ) where
   unfolding checkRefusal oneOf
   checked = first-elim P tt _ _ shape-section (last-elim P tt _ body)
 
-  -- and with 6
-  wider : (n : ℕ) → P n → T (oneOf readNumbers n)
-  unfolding oneOf
-  wider n h = cases (eqb n 6)
-    where
-      cases : (b : Bool) → T (cond b true (oneOf checkNumbers n))
-      cases true = tt
-      cases false = h
-
   -- ---- with a level buffer
 
   differ : (places : ℕ) → (readRefusal bytes places ≡ 6) ⊎ (readRefusal bytes places ≡ checkRefusal bytes)
   unfolding readRefusal checkRefusal
   differ places = with-six (shapeSectionRefusal bytes) (eqb places (total (settingsIn bytes))) (bodyRefusal bytes)
 
-  read : (places : ℕ) → T (oneOf readNumbers (readRefusal bytes places))
+  read : (places : ℕ) → Answers readNumbers (readRefusal bytes places)
   unfolding oneOf
   read places = cases (differ places)
     where
-      cases : (readRefusal bytes places ≡ 6) ⊎ (readRefusal bytes places ≡ checkRefusal bytes) → T (oneOf readNumbers (readRefusal bytes places))
+      cases : (readRefusal bytes places ≡ 6) ⊎ (readRefusal bytes places ≡ checkRefusal bytes) → Answers readNumbers (readRefusal bytes places)
       cases (inl e) = rw e tt
-      cases (inr e) = rw e (wider (checkRefusal bytes) checked)
+      cases (inr e) = rw e (one-between 0 6 (checkRefusal bytes) checkNumbers checked)
 
   not-six : {n : ℕ} → P n → n ≢ 6
   unfolding oneOf

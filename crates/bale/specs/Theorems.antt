@@ -1,2 +1,4 @@
 pub mod RoundTrips
+pub mod Numbers
 pub mod Totality
+pub mod Conditions

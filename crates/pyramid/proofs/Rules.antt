@@ -54,7 +54,7 @@ one-later m n ns h = cases (eqb n m)
     cases false = h
 
 -- a number more, in the second place
-one-between : (k m n : ℕ) (ns : List ℕ) → T (oneOf (k ∷ ns) n) → T (oneOf (k ∷ m ∷ ns) n)
+pub one-between : (k m n : ℕ) (ns : List ℕ) → T (oneOf (k ∷ ns) n) → T (oneOf (k ∷ m ∷ ns) n)
 unfolding oneOf
 one-between k m n ns h = cases (eqb n k) h
   where
