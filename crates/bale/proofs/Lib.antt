@@ -18,3 +18,4 @@ pub mod Pieces
 pub mod Answers
 pub mod Conditions
 pub mod Numbers
+pub mod Refused

@@ -2,3 +2,4 @@ pub mod RoundTrips
 pub mod Numbers
 pub mod Totality
 pub mod Conditions
+pub mod Refused
