@@ -19,3 +19,4 @@ pub mod Answers
 pub mod Conditions
 pub mod Numbers
 pub mod Refused
+pub mod WorkedFiles

@@ -3,3 +3,4 @@ pub mod Numbers
 pub mod Totality
 pub mod Conditions
 pub mod Refused
+pub mod WorkedFiles
