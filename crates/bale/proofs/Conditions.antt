@@ -1,17 +1,18 @@
 -- Each number of the writer is given on its condition and on no other, since it looks through rules with their tests. Assumes nothing.
 use mathlib.Core.Path.{_≡_}
 use mathlib.Core.Logic.{_↔_, Iff·trans}
-use mathlib.Core.Bool.{Bool, true, false}
+use mathlib.Core.Bool.{Bool, true}
 use mathlib.Core.List.{List, [], _∷_, _++_}
 use Prim.Native.Nat.{ℕ, _+_, _*_, _≤_, _<_}
-use lib.Dec.{T, leb, ltb, eqb, ltb→lt, lt→ltb}
+use lib.Dec.{T, leb, ltb, eqb, ltb→lt, lt→ltb, eqb→eq}
 use lib.Ieee.{Float, binary32, le, toBits, ofBits}
 use lib.IntN.{ℤ}
 use lib.ListN.{length}
 use Rattle.pyramid.specs.declared.Settings.{Settings}
 use Rattle.pyramid.specs.Definitions.Sizes.{total}
-use Rattle.pyramid.specs.Definitions.Refusals.{unless, first, oneOf}
-use Rattle.pyramid.proofs.Rules.{Tested, refusals, first-join, both-say, apart, given}
+use Rattle.pyramid.specs.Definitions.Refusals.{first}
+use Rattle.pyramid.proofs.Refusals.{unless-none, unless-holds}
+use Rattle.pyramid.proofs.Rules.{Tested, refusals, first-join, both-say, given}
 use Rattle.pyramid.proofs.RuleTests.{le-decides}
 use Rattle.pyramid.proofs.Conditions.{settingsTests, levelsTest, valuesTest, settings-look}
 use Rattle.bale.specs.declared.Reading.{Reading}
@@ -21,13 +22,13 @@ use Rattle.bale.specs.Definitions.Readings.{percentageOk, faultOk, codeW
 use Rattle.bale.specs.Definitions.Files.{fileLength}
 use Rattle.bale.specs.Definitions.Calls.{sizeAnswer, writeRefusal, writeFile}
 use Rattle.bale.specs.Theorems.Conditions.{ReadingRule, WriterConditions}
+use Rattle.bale.proofs.Sections.{eqb-of}
 
 -- ---- tests that decide
 
 code-decides : (ok : Bool) (kind number : ℕ) → T (eqb (codeWhere ok kind number .refusal) 0) ↔ T ok
-unfolding codeWhere unless
-code-decides true kind number = (λ t. tt, λ t. tt)
-code-decides false kind number = (λ t. absurd t, λ t. absurd t)
+unfolding codeWhere
+code-decides ok kind number = (λ t. unless-none ok 3 (eqb→eq _ 0 t), λ t. eqb-of (unless-holds ok 4 t))
 
 percentage-decides : (bits : ℕ) (x : Float) → T (percentageOk bits x) ↔ ((bits < 0x8000_0000) × T (le x (ofBits binary32 0x42C8_0000)))
 unfolding percentageOk
@@ -76,7 +77,7 @@ module _ (s : Settings) (note : Note) (levels : List ℤ) (room : ℕ) where
   writing-looks = rw (settings-look s) (first-join [] (refusals (settingsTests s)) (refusals ownTests))
 
 pub writer-conditions : (s : Settings) → WriterConditions s
-unfolding apart oneOf sizeAnswer writeFile
+unfolding sizeAnswer writeFile
 writer-conditions s = record {
   of-size = given (settingsTests s) (settings-look s) tt;
   of-writing = λ note levels file. given (writingTests s note levels (length file)) (writing-looks s note levels (length file)) tt;

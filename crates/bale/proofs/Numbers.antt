@@ -3,7 +3,7 @@ use mathlib.Core.Bool.{Bool}
 use mathlib.Core.List.{[], _∷_}
 use Prim.Native.Nat.{ℕ, zero, suc}
 use lib.ListN.{length}
-use Rattle.pyramid.specs.Definitions.Refusals.{unless, oneOf}
+use Rattle.pyramid.specs.Definitions.Refusals.{unless}
 use Rattle.pyramid.specs.Theorems.Numbers.{Answers}
 use Rattle.pyramid.proofs.Refusals.{unless-elim}
 use Rattle.pyramid.proofs.Rules.{answered}
@@ -22,7 +22,6 @@ abbrev OrFour : ℕ → Type 0
 OrFour n = Answers (4 ∷ []) n
 
 four : (ok : Bool) → OrFour (unless ok 4)
-unfolding oneOf
 four ok = unless-elim OrFour tt ok 4 tt
 
 code-numbers : (r : Reading) → OrFour (codeOf r .refusal)

@@ -9,12 +9,12 @@ use lib.ListN.{length}
 use Rattle.pyramid.specs.declared.Settings.{Settings}
 use Rattle.pyramid.specs.Definitions.Settings.{sideOk, kernelOk, bin, sizeOk, binsOk}
 use Rattle.pyramid.specs.Definitions.Sizes.{total}
-use Rattle.pyramid.specs.Definitions.Refusals.{first, oneOf, shapeRefusal, settingsRefusal, buffersRefusal, valuesOk, levelsRefusal, codingRefusal, rebuildingRefusal}
+use Rattle.pyramid.specs.Definitions.Refusals.{first, shapeRefusal, settingsRefusal, buffersRefusal, valuesOk, levelsRefusal, codingRefusal, rebuildingRefusal}
 use Rattle.pyramid.specs.Definitions.Calls.{coding, rebuilding}
 use Rattle.pyramid.specs.Definitions.Answers.{boundsAnswer, nodesAnswer, shapeAnswer, levelSizeAnswer, deepestAnswer}
 use Rattle.pyramid.specs.Theorems.Conditions.{SideRule, SlotRule, SizeRule, valuesRule, Conditions}
 use Rattle.pyramid.proofs.Refusals.{first-last}
-use Rattle.pyramid.proofs.Rules.{Tested, refusals, first-join, both-say, apart, given}
+use Rattle.pyramid.proofs.Rules.{Tested, refusals, first-join, both-say, given}
 use Rattle.pyramid.proofs.RuleTests.{le-decides, eq-decides, side-decides, size-decides, kernel-decides, bins-decide, values-decide, picture-decides}
 
 -- ---- the rules with their tests, in the order in which they are looked for
@@ -95,7 +95,7 @@ unfolding deepestAnswer
 deepest-looks columns rows = sym (first-last _)
 
 pub conditions : (s : Settings) → Conditions s
-unfolding apart oneOf coding rebuilding boundsAnswer nodesAnswer shapeAnswer levelSizeAnswer
+unfolding coding rebuilding boundsAnswer nodesAnswer shapeAnswer levelSizeAnswer
 conditions s = record {
   of-coding = λ picture levels work. given (codingTests s picture levels work) (coding-looks s picture levels work) tt;
   of-rebuilding = λ levels picture work. given (rebuildingTests s levels picture work) (rebuilding-looks s picture levels work) tt;

@@ -42,11 +42,9 @@ first-join [] (suc n ∷ ys) later = refl
 -- ---- one of some numbers
 
 one-here : (n : ℕ) (ns : List ℕ) → T (oneOf (n ∷ ns) n)
-unfolding oneOf
 one-here n ns = rw (eq-eqb n n refl) tt
 
 one-later : (m n : ℕ) (ns : List ℕ) → T (oneOf ns n) → T (oneOf (m ∷ ns) n)
-unfolding oneOf
 one-later m n ns h = cases (eqb n m)
   where
     cases : (b : Bool) → T (cond b true (oneOf ns n))
@@ -55,7 +53,6 @@ one-later m n ns h = cases (eqb n m)
 
 -- a number more, in the second place
 pub one-between : (k m n : ℕ) (ns : List ℕ) → T (oneOf (k ∷ ns) n) → T (oneOf (k ∷ m ∷ ns) n)
-unfolding oneOf
 one-between k m n ns h = cases (eqb n k) h
   where
     cases : (b : Bool) → T (cond b true (oneOf ns n)) → T (cond b true (oneOf (m ∷ ns) n))
@@ -65,7 +62,7 @@ one-between k m n ns h = cases (eqb n k) h
 -- ---- the answer is 0 or a rule's number
 
 answer-one : (ts : List Tested) → T (oneOf (0 ∷ numbers ts) (first (refusals ts)))
-unfolding first unless oneOf
+unfolding first unless
 answer-one [] = tt
 answer-one (t ∷ ts) = cases (t .test) (t .number) (answer-one ts)
   where
@@ -80,7 +77,7 @@ answered ts e = rw e (answer-one ts)
 -- ---- each number on its condition
 
 -- no number is 0, and none stands twice
-unfoldable pub apart : List ℕ → Bool
+abbrev pub apart : List ℕ → Bool
 apart [] = true
 apart (n ∷ ns) = not (oneOf (0 ∷ ns) n) && apart ns
 
@@ -90,7 +87,7 @@ Follows answer true numbers refusals = answer ≡ first refusals
 Follows answer false numbers refusals = T (oneOf (0 ∷ numbers) answer) → ⊥
 
 at-end : (answer : ℕ) (held : Bool) {before : Type 0} → T held ↔ before → Follows answer held [] [] → (answer ≡ 0) ↔ before
-unfolding first oneOf
+unfolding first
 at-end answer true d f = (λ e. d .0 tt, λ b. f)
 at-end answer false d f = (λ e. absurd (f (rw e tt)), λ b. absurd (d .1 b))
 
@@ -100,12 +97,11 @@ module _ (answer number : ℕ) (ns later : List ℕ) (new : T (oneOf (0 ∷ ns) 
   passed f = f ∙ first-skip _ later (unless-passes number refl)
 
   stopped : answer ≡ first (unless false number ∷ later) → answer ≡ number
-  unfolding oneOf
   stopped f = f ∙ sym (answers-stop later (sym (unless-fails number refl)) (λ z. new (rw z tt)))
 
   here : (held test : Bool) {before says : Type 0} → T held ↔ before → T test ↔ says → T (oneOf (0 ∷ ns) (first later))
       → Follows answer held (number ∷ ns) (unless test number ∷ later) → (answer ≡ number) ↔ (before × ¬ says)
-  here false test d e one f = (λ p. absurd (f (rw p (one-later 0 number _ (one-here number ns)))), λ h. absurd (d .1 (h .0)))
+  here false test d e one f = (λ p. absurd (f (rw p (one-later 0 number (number ∷ ns) (one-here number ns)))), λ h. absurd (d .1 (h .0)))
   here true false d e one f = (λ p. (d .0 tt, λ h. e .1 h), λ h. stopped f)
   here true true d e one f = (λ p. absurd (new (rw (sym p ∙ passed f) one)), λ h. absurd (h .1 (e .0 tt)))
 
@@ -119,7 +115,7 @@ both-say held test d e = (λ t. let (a, b) = both held test t in (d .0 a, e .0 b
 
 given-after : (answer : ℕ) (before : Type 0) (held : Bool) → T held ↔ before → (ts : List Tested) → T (apart (numbers ts))
     → Follows answer held (numbers ts) (refusals ts) → GivenAfter before (rules ts) answer
-unfolding GivenAfter apart
+unfolding GivenAfter
 given-after answer before held d [] a f = at-end answer held d f
 given-after answer before held d (t ∷ ts) a f =
     let (other, later) = both (not (oneOf (0 ∷ numbers ts) (t .number))) (apart (numbers ts)) a in

@@ -24,7 +24,7 @@ first (zero ∷ later) = first later
 first (suc number ∷ later) = suc number
 
 -- n is one of these numbers
-unfoldable pub oneOf : List ℕ → ℕ → Bool
+abbrev pub oneOf : List ℕ → ℕ → Bool
 oneOf [] n = false
 oneOf (m ∷ ms) n = cond (eqb n m) true (oneOf ms n)
 
