@@ -17,3 +17,7 @@ pub mod Checks
 pub mod Writings
 pub mod Pieces
 pub mod Answers
+pub mod Conditions
+pub mod Numbers
+pub mod Refused
+pub mod WorkedFiles

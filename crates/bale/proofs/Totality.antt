@@ -1,8 +1,7 @@
 -- Reading is total: each rule gives its own number or 0, so the first that is not 0 is one of them. No rule but the one of the level
 -- buffer's length gives 6. Assumes nothing.
-use mathlib.Core.Path.{_≡_, refl, sym, _∙_}
+use mathlib.Core.Path.{_≡_, sym, _∙_}
 use mathlib.Core.Logic.{_↔_, _≢_, _⊎_, inl, inr}
-use mathlib.Core.Bool.{Bool, true, false, cond}
 use mathlib.Core.List.{List, [], _∷_}
 use Prim.Native.Nat.{ℕ, zero, suc, _+_, _*_}
 use native.Mathlib.Omega.{arith}
@@ -11,43 +10,32 @@ use lib.Dec.{T, eqb}
 use lib.ListN.{getD}
 use Rattle.pyramid.specs.declared.Settings.{Settings}
 use Rattle.pyramid.specs.Definitions.Sizes.{nodesAt, total}
-use Rattle.pyramid.specs.Definitions.Refusals.{unless, first, shapeRefusal}
-use Rattle.pyramid.proofs.Refusals.{first-last, first-skip, answers-fails, unless-holds, unless-elim, first-elim, last-elim, shape-elim}
+use Rattle.pyramid.specs.Definitions.Refusals.{shapeRefusal}
+use Rattle.pyramid.specs.Theorems.Numbers.{Answers}
+use Rattle.pyramid.proofs.Refusals.{first-skip, first-between, answers-fails, unless-holds, unless-more, unless-elim, first-elim, last-elim, shape-elim}
+use Rattle.pyramid.proofs.Rules.{one-between}
 use Rattle.bale.specs.Definitions.Words.{u32At}
 use Rattle.bale.specs.Definitions.Readings.{probeWhere, decode}
 use Rattle.bale.specs.Definitions.Sections.{sectionRefusal}
 use Rattle.bale.specs.Definitions.Reader.{settingsIn, probeAt, shapeSectionRefusal, binsSectionRefusal, readingsSectionRefusal, levelSectionRefusal, levelSectionsRefusal, bodyRefusal}
 use Rattle.bale.specs.Definitions.Calls.{readRefusal, checkRefusal}
-use Rattle.bale.specs.Theorems.Totality.{oneOf, checkNumbers, readNumbers, ReadingIsTotal}
+use Rattle.bale.specs.Theorems.Numbers.{checkNumbers, readNumbers}
+use Rattle.bale.specs.Theorems.Totality.{ReadingIsTotal}
 use Rattle.bale.proofs.Sections.{eqb-of}
-
--- a rule of number 6 between two others: it gives 6 or changes nothing, and where the others don't give 6, it does
-with-six : (x : ℕ) (holds : Bool) (y : ℕ) → (first (x ∷ unless holds 6 ∷ y ∷ []) ≡ 6) ⊎ (first (x ∷ unless holds 6 ∷ y ∷ []) ≡ first (x ∷ y ∷ []))
-unfolding first unless
-with-six zero true y = inr refl
-with-six zero false y = inl refl
-with-six (suc x) holds y = inr refl
-
-middle : (x y z : ℕ) → x ≢ 6 → z ≢ 6 → first (x ∷ y ∷ z ∷ []) ≡ 6 → (x ≡ 0) × (y ≡ 6)
-unfolding first
-middle zero zero z hx hz e = absurd (hz (sym (first-last z) ∙ e))
-middle zero (suc y) z hx hz e = (refl, e)
-middle (suc x) y z hx hz e = absurd (hx e)
 
 module _ (bytes : List ℕ) where
   abbrev P : ℕ → Type 0
-  P n = T (oneOf checkNumbers n)
+  P n = Answers checkNumbers n
 
   section : (at count size : ℕ) → P (sectionRefusal bytes at count size)
-  unfolding sectionRefusal oneOf
+  unfolding sectionRefusal
   section at count size = first-elim P tt _ _ (unless-elim P tt _ 9 tt) (first-elim P tt _ _ (unless-elim P tt _ 10 tt) (last-elim P tt _ (unless-elim P tt _ 9 tt)))
 
   shape : (s : Settings) → P (shapeRefusal s)
-  unfolding oneOf
   shape s = shape-elim P tt s tt tt
 
   decoded : (kind n : ℕ) → P (decode kind n .refusal)
-  unfolding decode probeWhere oneOf
+  unfolding decode probeWhere
   decoded zero n = unless-elim P tt _ 4 tt
   decoded (suc zero) n = unless-elim P tt _ 4 tt
   decoded (suc (suc zero)) n = unless-elim P tt _ 4 tt
@@ -58,65 +46,54 @@ module _ (bytes : List ℕ) where
   probe at = decoded (getD bytes at 0) (u32At bytes (at + 1))
 
   shape-section : P (shapeSectionRefusal bytes)
-  unfolding shapeSectionRefusal oneOf
+  unfolding shapeSectionRefusal
   shape-section = first-elim P tt _ _ (section 0 4 2) (last-elim P tt _ (shape (settingsIn bytes)))
 
   bins-section : P (binsSectionRefusal bytes)
-  unfolding binsSectionRefusal oneOf
+  unfolding binsSectionRefusal
   bins-section = first-elim P tt _ _ (section _ _ _) (last-elim P tt _ (unless-elim P tt _ 3 tt))
 
   readings-section : (depth : ℕ) → P (readingsSectionRefusal bytes depth)
-  unfolding readingsSectionRefusal oneOf
+  unfolding readingsSectionRefusal
   readings-section depth = first-elim P tt _ _ (section _ _ _) (first-elim P tt _ _ (probe _) (last-elim P tt _ (probe _)))
 
   level : (s : Settings) (l at : ℕ) → P (levelSectionRefusal bytes s l at)
-  unfolding levelSectionRefusal oneOf
+  unfolding levelSectionRefusal
   level s l at = first-elim P tt _ _ (section _ _ _) (last-elim P tt _ (unless-elim P tt _ 11 tt))
 
   levels : (s : Settings) (l at : ℕ) → P (levelSectionsRefusal bytes s l at)
-  unfolding levelSectionsRefusal oneOf
+  unfolding levelSectionsRefusal
   levels s zero at = first-elim P tt _ _ (level s 0 at) (last-elim P tt _ (unless-elim P tt _ 12 tt))
   levels s (suc l) at = first-elim P tt _ _ (level s (suc l) at) (last-elim P tt _ (levels s l (at + 2 + 2 * nodesAt s (suc l))))
 
   body : P (bodyRefusal bytes)
-  unfolding bodyRefusal oneOf
+  unfolding bodyRefusal
   body = first-elim P tt _ _ bins-section (first-elim P tt _ _ (readings-section _) (last-elim P tt _ (levels _ _ _)))
 
   checked : P (checkRefusal bytes)
-  unfolding checkRefusal oneOf
+  unfolding checkRefusal
   checked = first-elim P tt _ _ shape-section (last-elim P tt _ body)
-
-  -- and with 6
-  wider : (n : ℕ) → P n → T (oneOf readNumbers n)
-  unfolding oneOf
-  wider n h = cases (eqb n 6)
-    where
-      cases : (b : Bool) → T (cond b true (oneOf checkNumbers n))
-      cases true = tt
-      cases false = h
 
   -- ---- with a level buffer
 
   differ : (places : ℕ) → (readRefusal bytes places ≡ 6) ⊎ (readRefusal bytes places ≡ checkRefusal bytes)
   unfolding readRefusal checkRefusal
-  differ places = with-six (shapeSectionRefusal bytes) (eqb places (total (settingsIn bytes))) (bodyRefusal bytes)
+  differ places = unless-more (shapeSectionRefusal bytes) (eqb places (total (settingsIn bytes))) 5 (bodyRefusal bytes ∷ [])
 
-  read : (places : ℕ) → T (oneOf readNumbers (readRefusal bytes places))
-  unfolding oneOf
+  read : (places : ℕ) → Answers readNumbers (readRefusal bytes places)
   read places = cases (differ places)
     where
-      cases : (readRefusal bytes places ≡ 6) ⊎ (readRefusal bytes places ≡ checkRefusal bytes) → T (oneOf readNumbers (readRefusal bytes places))
+      cases : (readRefusal bytes places ≡ 6) ⊎ (readRefusal bytes places ≡ checkRefusal bytes) → Answers readNumbers (readRefusal bytes places)
       cases (inl e) = rw e tt
-      cases (inr e) = rw e (wider (checkRefusal bytes) checked)
+      cases (inr e) = rw e (one-between 0 6 (checkRefusal bytes) checkNumbers checked)
 
   not-six : {n : ℕ} → P n → n ≢ 6
-  unfolding oneOf
   not-six h e = rw e at h
 
   wrong-places : (places : ℕ) → readRefusal bytes places ≡ 6 → (shapeSectionRefusal bytes ≡ 0) × (places ≢ total (settingsIn bytes))
   unfolding readRefusal
   wrong-places places e =
-      let (shape, own) = middle (shapeSectionRefusal bytes) _ (bodyRefusal bytes) (not-six shape-section) (not-six body) e in
+      let (shape, own) = first-between (shapeSectionRefusal bytes) _ (bodyRefusal bytes ∷ []) (not-six shape-section) (not-six (last-elim P tt _ body)) e in
       (shape, λ same. omega (arith, own, unless-holds (eqb places (total (settingsIn bytes))) 6 (eqb-of same)))
 
   six : (places : ℕ) → (readRefusal bytes places ≡ 6) ↔ ((shapeSectionRefusal bytes ≡ 0) × (places ≢ total (settingsIn bytes)))

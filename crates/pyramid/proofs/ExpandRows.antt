@@ -15,7 +15,7 @@ use Rattle.pyramid.specs.Inner.Lawful.{Kernel}
 use Rattle.pyramid.specs.Definitions.Edge.{reflect}
 use Rattle.pyramid.specs.Definitions.Steps.{evenWeight, halved, expand}
 use Rattle.pyramid.specs.Inner.Rows.{asLevel, columnSum, Within, Small, Source}
-use Rattle.pyramid.proofs.Weights.{even-size, reach-most}
+use Rattle.pyramid.proofs.Weights.{even-size, gain-most}
 use Rattle.pyramid.proofs.Windows.{window-columns}
 use Rattle.pyramid.proofs.Edge.{expand-inside}
 use Rattle.pyramid.proofs.TapSums.{within-more}
@@ -34,7 +34,7 @@ module _ {k columns rows : ℕ} {src : List ℤ} (h : Kernel k) (s : Source 2 52
   column-small : (x : ℕ) → Within 8388608 (column x)
   column-small x =
       within-more (omega arith)
-      (column-within (evenWeight k j) (λ t. reflect (rows - 1) (halved j t)) columns x 14 524288 src (le-trans (even-size h j) (reach-most h)) (s .small))
+      (column-within (evenWeight k j) (λ t. reflect (rows - 1) (halved j t)) columns x 14 524288 src (le-trans (even-size h j) (gain-most h)) (s .small))
 
   pub sums-small : Small 8388608 sums
   sums-small = small-splice 0 (tabulate columns column) (replicate 65 (pos 0)) (small-tabulate columns column (λ x l. column-small x)) (small-zeros 65)

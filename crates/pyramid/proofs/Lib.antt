@@ -39,3 +39,8 @@ pub mod SamePictures
 pub mod LoadedPictures
 pub mod ValueLevels
 pub mod ShapeAnswers
+pub mod Rules
+pub mod RuleTests
+pub mod Conditions
+pub mod Numbers
+pub mod Refused

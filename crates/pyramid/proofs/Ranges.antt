@@ -27,7 +27,7 @@ use Rattle.pyramid.specs.Definitions.Refusals.{limit, valuesOk}
 use Rattle.pyramid.specs.Inner.Ranges.{EachNode, ReduceSums, ExpandSums, CodingRanges, RebuildingRanges, Fits32}
 use Rattle.pyramid.specs.Inner.Lawful.{Kernel, LawfulBin, Lawful}
 use Rattle.pyramid.proofs.Sizes.{last-suc, last-least}
-use Rattle.pyramid.proofs.Weights.{weight-size, even-size, reach-most, hundredths-most}
+use Rattle.pyramid.proofs.Weights.{weight-size, even-size, gain-most, hundredths-most}
 use Rattle.pyramid.proofs.Windows.{window-sums}
 use Rattle.pyramid.proofs.Edge.{reduce-inside, expand-inside}
 use Rattle.pyramid.proofs.Buffers.{stack-all}
@@ -128,7 +128,7 @@ module _ (s : Settings) (law : Lawful s) where
       (λ m n hm hn. abs-near (small _ _
       (expand-inside (last (s .columns) (suc l)) i m (last-least (law .shaped .across) (suc l) hl) (omega (arith, last-suc (s .columns) l)) hm)
       (expand-inside (last (s .rows) (suc l)) j n (last-least (law .shaped .along) (suc l) hl) (omega (arith, last-suc (s .rows) l)) hn)))
-      14 (le-trans (even-size (law .shaped .kernel) i) (reach-most (law .shaped .kernel))) (le-trans (even-size (law .shaped .kernel) j) (reach-most (law .shaped .kernel)))
+      14 (le-trans (even-size (law .shaped .kernel) i) (gain-most (law .shaped .kernel))) (le-trans (even-size (law .shaped .kernel) j) (gain-most (law .shaped .kernel)))
 
   -- ---- of all nodes
 

@@ -1,5 +1,6 @@
 -- Laws of chains of rules, what an accepted call says of its arguments, and what is left in a buffer. Assumes nothing.
 use mathlib.Core.Path.{_≡_, refl, sym, _∙_}
+use mathlib.Core.Logic.{_≢_, _⊎_, inl, inr}
 use mathlib.Core.Bool.{Bool, true, false}
 use mathlib.Core.List.{List, [], _∷_, _++_}
 use Prim.Native.Nat.{ℕ, zero, suc, _*_}
@@ -84,6 +85,21 @@ pub unless-holds : (holds : Bool) (number : ℕ) → T holds → unless holds nu
 unfolding unless
 unless-holds true number t = refl
 unless-holds false number t = absurd t
+
+-- ---- a rule more: it gives its number or changes nothing; and where no other rule gives that number, it does
+
+pub unless-more : (x : ℕ) (holds : Bool) (number : ℕ) (later : List ℕ)
+    → (first (x ∷ unless holds (suc number) ∷ later) ≡ suc number) ⊎ (first (x ∷ unless holds (suc number) ∷ later) ≡ first (x ∷ later))
+unfolding first unless
+unless-more zero true number later = inr refl
+unless-more zero false number later = inl refl
+unless-more (suc x) holds number later = inr refl
+
+pub first-between : (x y : ℕ) (later : List ℕ) {number : ℕ} → x ≢ number → first later ≢ number → first (x ∷ y ∷ later) ≡ number → (x ≡ 0) × (y ≡ number)
+unfolding first
+first-between zero zero later hx hl e = absurd (hl e)
+first-between zero (suc y) later hx hl e = (refl, e)
+first-between (suc x) y later hx hl e = absurd (hx e)
 
 -- ---- what is answered: a number m other than 0 is the answer, 0 is passed over, and the last rule's is the answer
 

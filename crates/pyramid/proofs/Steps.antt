@@ -1,7 +1,7 @@
 -- Laws of REDUCE and EXPAND: a constant level stays as it is, and how far apart the steps of two levels are. Assumes nothing.
-use mathlib.Core.Path.{_≡_}
+use mathlib.Core.Path.{_≡_, sym}
 use Prim.Native.Nat.{ℕ, _+_, _*_, _/_, _≤_}
-use native.Mathlib.Nat.{mul-le-mul, mul-le-mul-right, mul-assoc, le-trans}
+use native.Mathlib.Nat.{mul-le-mul, mul-le-mul-right, mul-assoc, le-of-eq, le-trans}
 use native.Mathlib.Omega.{arith}
 use lib.Dec.{lit<}
 use lib.IntN.{ℤ, pos, _*ℤ_}
@@ -13,8 +13,9 @@ use Rattle.pyramid.specs.Definitions.Weights.{weight}
 use Rattle.pyramid.specs.Definitions.Edge.{reflect}
 use Rattle.pyramid.specs.Definitions.Steps.{reduce, evenWeight, halved, expand}
 use Rattle.pyramid.specs.Definitions.Bound.{hundredths, magnified}
+use Rattle.pyramid.specs.Theorems.Multiplier.{gain}
 use Rattle.pyramid.specs.Inner.Lawful.{Kernel}
-use Rattle.pyramid.proofs.Weights.{size, weight-sum, weight-size, even-sum, even-size, reach, reach-square}
+use Rattle.pyramid.proofs.Weights.{size, weight-sum, weight-size, even-sum, even-size, gain-square}
 use Rattle.pyramid.proofs.Windows.{window-constant, near-window}
 use Rattle.pyramid.proofs.Edge.{reduce-inside, expand-inside}
 
@@ -57,10 +58,10 @@ near-reduce {k} h zc zr e u v close hc hr i j hi hj =
     (near-window (weight k) (weight k) (λ t. reflect zc (2 * i + t)) (λ t. reflect zr (2 * j + t)) u v e
     (λ m n hm hn. close _ _ (reduce-inside zc i m hc hi hm) (reduce-inside zr j n hr hj hn))))
 
-covers : {k : ℕ} → Kernel k → (a b e : ℕ) → a ≤ reach k → b ≤ reach k → 4 * (a * (b * e)) ≤ magnified k e * 400
+covers : {k : ℕ} → Kernel k → (a b e : ℕ) → a ≤ gain k → b ≤ gain k → 4 * (a * (b * e)) ≤ magnified k e * 400
 unfolding magnified
 covers {k} h a b e ha hb =
-    let square : a * (b * e) ≤ hundredths k * e = rw (← mul-assoc) (mul-le-mul-right e (le-trans (mul-le-mul ha hb) (reach-square h))) in
+    let square : a * (b * e) ≤ hundredths k * e = rw (← mul-assoc) (mul-le-mul-right e (le-trans (mul-le-mul ha hb) (le-of-eq (sym (gain-square h))))) in
     omega arith
 
 pub near-expand : {k : ℕ} → Kernel k → (zc zr e : ℕ) (u v : Level) → NearLevel e zc zr u v → 1 ≤ zc → 1 ≤ zr

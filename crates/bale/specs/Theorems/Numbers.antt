@@ -1,0 +1,29 @@
+-- Which numbers each call can answer (document 01, "Who can cause which refusal"), a row for each call. Assumes nothing.
+use mathlib.Core.List.{List, [], _∷_}
+use Prim.Native.Nat.{ℕ}
+use lib.IntN.{ℤ}
+use Rattle.pyramid.specs.declared.Settings.{Settings}
+use Rattle.pyramid.specs.Theorems.Numbers.{Answers, settingsNumbers}
+use Rattle.bale.specs.declared.Reading.{Reading}
+use Rattle.bale.specs.declared.Note.{Note}
+use Rattle.bale.specs.Definitions.Readings.{codeOf, decode}
+use Rattle.bale.specs.Definitions.Calls.{sizeAnswer, writeFile, checkFile, readFile}
+
+abbrev pub writingNumbers : List ℕ
+writingNumbers = 1 ∷ 2 ∷ 3 ∷ 4 ∷ 6 ∷ 8 ∷ 11 ∷ []
+
+-- the reader that is lent no level buffer; lent one, it has 6 too
+abbrev pub checkNumbers : List ℕ
+checkNumbers = 1 ∷ 2 ∷ 3 ∷ 4 ∷ 9 ∷ 10 ∷ 11 ∷ 12 ∷ []
+
+abbrev pub readNumbers : List ℕ
+readNumbers = 6 ∷ checkNumbers
+
+pub record BaleNumbers : Type 0 where
+  pub of-size : (s : Settings) → Answers settingsNumbers (sizeAnswer s .refusal)
+  pub of-writing : (s : Settings) (note : Note) (levels : List ℤ) (file : List ℕ) → Answers writingNumbers (writeFile s note levels file .answer .refusal)
+  pub of-checking : (bytes : List ℕ) → Answers checkNumbers (checkFile bytes .refusal)
+  pub of-reading : (bytes : List ℕ) (levels : List ℤ) → Answers readNumbers (readFile bytes levels .answer .refusal)
+  -- a reading's kind and number, and the reading of these
+  pub of-code : (reading : Reading) → Answers (4 ∷ []) (codeOf reading .refusal)
+  pub of-decoding : (kind number : ℕ) → Answers (4 ∷ []) (decode kind number .refusal)
