@@ -1,20 +1,69 @@
 // The cases of a file one after the other.
-use crate::decoding;
 use crate::levels_cases;
+use crate::parts;
 use crate::pyramid_cases;
-use crate::reading;
-use crate::reporting;
-use crate::reporting::Finding;
-use crate::reporting::Tally;
-use crate::reporting::difference;
 use crate::sizes;
+use crate::sizes::Sizes;
+use pyramid::Settings;
+use test_support::decoding;
+use test_support::reading;
+use test_support::reporting;
+use test_support::reporting::Finding;
+use test_support::reporting::Tally;
+use test_support::reporting::difference;
 
 // The two kinds of files.
 pub(crate) const PYRAMID: u16 = 0;
 
 pub(crate) const LEVELS: u16 = 1;
 
-// Reads the settings of the next case and lends its checks the parts of the buffers that it takes.
+// Reads and checks a case over buffers of its sizes.
+fn check_read(
+    kind: u16,
+    fd: i32,
+    s: Settings,
+    z: Sizes,
+    case: &mut [u8],
+    levels: &mut [i16],
+    picture: &mut [u8],
+    work: &mut [i32],
+) -> Finding {
+    if kind == PYRAMID {
+        return pyramid_cases::check_read(fd, s, z, case, levels, picture, work);
+    }
+    levels_cases::check_read(fd, s, z, case, levels, picture, work)
+}
+
+// Lends the parts of the buffers that a case takes.
+fn check_sized(
+    kind: u16,
+    fd: i32,
+    s: Settings,
+    case: &mut [u8],
+    levels: &mut [i16],
+    picture: &mut [u8],
+    work: &mut [i32],
+) -> Finding {
+    let z = sizes::sizes_of(s);
+    let nodes = z.nodes as usize;
+    let pixels = z.pixels as usize;
+    let places = nodes + sizes::AFTER;
+    if z.levels == 0 || levels.len() < nodes || picture.len() < pixels || work.len() < places {
+        return difference(parts::SETTINGS, 0);
+    }
+    check_read(
+        kind,
+        fd,
+        s,
+        z,
+        case,
+        &mut levels[0..nodes],
+        &mut picture[0..pixels],
+        &mut work[0..places],
+    )
+}
+
+// Reads the settings of the next case, and checks it.
 fn check_next(
     kind: u16,
     fd: i32,
@@ -28,43 +77,8 @@ fn check_next(
     if part != reporting::AGREES {
         return difference(part, 0);
     }
-    let s = decoding::settings(&head);
-    let z = sizes::sizes_of(s);
-    let nodes = z.nodes;
-    let pixels = z.pixels;
-    let places = z.work;
-    if z.levels == 0 {
-        return difference(reporting::SETTINGS, 0);
-    }
-    if levels.len() < nodes {
-        return difference(reporting::SETTINGS, 0);
-    }
-    if picture.len() < pixels {
-        return difference(reporting::SETTINGS, 0);
-    }
-    if work.len() < places {
-        return difference(reporting::SETTINGS, 0);
-    }
-    if kind == PYRAMID {
-        return pyramid_cases::check_read(
-            fd,
-            s,
-            z,
-            case,
-            &mut levels[0..nodes],
-            &mut picture[0..pixels],
-            &mut work[0..places],
-        );
-    }
-    levels_cases::check_read(
-        fd,
-        s,
-        z,
-        case,
-        &mut levels[0..nodes],
-        &mut picture[0..pixels],
-        &mut work[0..places],
-    )
+    let s = decoding::settings_of(&head);
+    check_sized(kind, fd, s, case, levels, picture, work)
 }
 
 // All cases to the end of the file. A file has fewer than a million.
@@ -80,7 +94,7 @@ pub(crate) fn check_all(
     let mut left: u32 = 1000000;
     while 0 < left {
         let finding = check_next(kind, fd, case, levels, picture, work);
-        if finding.part == reporting::FILE_ENDS {
+        if finding.part == reporting::DATA_ENDS {
             return tally;
         }
         tally = reporting::counted(tally, finding);

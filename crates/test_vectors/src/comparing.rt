@@ -1,101 +1,57 @@
-// The first of n places at which a buffer differs from what a vector's bytes hold, or n.
-// A place that either of the two does not have counts as different.
-use crate::decoding;
+// The first of n places at which a buffer differs from what a vector's bytes hold, or a place past them.
+use test_support::comparing;
+use test_support::decoding;
 
-pub(crate) fn pixels(bytes: &[u8], picture: &[u8], n: usize) -> usize {
-    let mut i = 0;
+// A work buffer and the averages, of 16 bits.
+pub(crate) fn averages(bytes: &[u8], work: &[i32], n: u32) -> usize {
+    let mut i: u32 = 0;
     while i < n {
-        if bytes.len() <= i {
-            return i;
+        let place = i as usize;
+        if work.len() <= place {
+            return place;
         }
-        if picture.len() <= i {
-            return i;
-        }
-        if bytes[i] != picture[i] {
-            return i;
+        if work[place] != decoding::signed16_at(bytes, 2 * place) as i32 {
+            return place;
         }
         i += 1;
     }
-    n
+    n as usize
 }
 
-pub(crate) fn indices(bytes: &[u8], levels: &[i16], n: usize) -> usize {
-    let mut i = 0;
+// A work buffer and the values, of 32 bits.
+pub(crate) fn values(bytes: &[u8], work: &[i32], n: u32) -> usize {
+    let mut i: u32 = 0;
     while i < n {
-        if bytes.len() / 2 <= i {
-            return i;
+        let place = i as usize;
+        if work.len() <= place {
+            return place;
         }
-        if levels.len() <= i {
-            return i;
-        }
-        if levels[i] != decoding::signed16(bytes[2 * i], bytes[2 * i + 1]) {
-            return i;
+        if work[place] != decoding::signed32_at(bytes, 4 * place) {
+            return place;
         }
         i += 1;
     }
-    n
+    n as usize
 }
 
-pub(crate) fn averages(bytes: &[u8], work: &[i32], n: usize) -> usize {
-    let mut i = 0;
-    while i < n {
-        if bytes.len() / 2 <= i {
-            return i;
-        }
-        if work.len() <= i {
-            return i;
-        }
-        if work[i] != decoding::widened16(bytes[2 * i], bytes[2 * i + 1]) {
-            return i;
-        }
-        i += 1;
-    }
-    n
-}
-
-pub(crate) fn values(bytes: &[u8], work: &[i32], n: usize) -> usize {
-    let mut i = 0;
-    while i < n {
-        if bytes.len() / 4 <= i {
-            return i;
-        }
-        if work.len() <= i {
-            return i;
-        }
-        if work[i]
-            != decoding::signed32(
-                bytes[4 * i],
-                bytes[4 * i + 1],
-                bytes[4 * i + 2],
-                bytes[4 * i + 3],
-            )
-        {
-            return i;
-        }
-        i += 1;
-    }
-    n
-}
-
-// The bound of a slot in a vector's bytes, level N first; 0 in the slots above the depth.
-fn bound(bytes: &[u8], levels: usize, slot: usize) -> u16 {
+// The bound of a slot: the bytes hold level N first, and the slots above the depth hold 0.
+fn bound(bytes: &[u8], levels: u32, slot: u32) -> u16 {
     if slot < levels {
-        if levels <= 7 {
-            return decoding::unsigned16_at(bytes, 2 * (levels - 1 - slot));
-        }
-        return decoding::MISSING;
+        return decoding::unsigned16_at(bytes, 2 * (levels - 1 - slot) as usize);
     }
     0
 }
 
 // Of all seven slots the first whose bound differs, or 7.
-pub(crate) fn bounds(bytes: &[u8], slots: [u16; 7], levels: usize) -> usize {
-    let mut i = 0;
-    while i < 7 {
-        if slots[i] != bound(bytes, levels, i) {
-            return i;
-        }
-        i += 1;
-    }
-    i
+pub(crate) fn bounds(bytes: &[u8], slots: [u16; 7], levels: u32) -> usize {
+    let expected = [
+        bound(bytes, levels, 0),
+        bound(bytes, levels, 1),
+        bound(bytes, levels, 2),
+        bound(bytes, levels, 3),
+        bound(bytes, levels, 4),
+        bound(bytes, levels, 5),
+        bound(bytes, levels, 6),
+    ];
+    comparing::slots(slots, expected)
 }

@@ -1,18 +1,17 @@
 // Holds coding, rebuilding, T and the bounds to vectors that another implementation made (tests/reference).
 mod cases;
+mod coding;
 mod comparing;
-mod decoding;
-mod fillers;
 mod levels_cases;
+mod parts;
 mod pyramid_cases;
-mod reading;
-mod reporting;
+mod rebuilding;
 mod sizes;
 
 use cases::LEVELS;
 use cases::PYRAMID;
 use libc::STDOUT_FILENO;
-use reporting::Tally;
+use test_support::reporting::Tally;
 
 // The largest case has 212,190 bytes, 22,359 nodes and 16,641 pixels.
 fn run(kind: u16, fd: i32) -> Tally {
@@ -25,15 +24,15 @@ fn run(kind: u16, fd: i32) -> Tally {
 
 // Runs the cases of a file and writes its line.
 fn report(kind: u16, path: &[u8]) {
-    io::write_all(STDOUT_FILENO, path);
     let fd = os::open_read(path);
     if fd < 0 {
+        io::write_all(STDOUT_FILENO, path);
         io::write_all(STDOUT_FILENO, b": cannot be opened\n");
         return;
     }
     let tally = run(kind, fd);
     libc::close(fd);
-    reporting::print(tally);
+    parts::print(path, tally);
 }
 
 fn main() {

@@ -1,102 +1,54 @@
-// The cases of the file `pyramid`: a coding and the rebuilding from its levels, both accepted.
+// The cases of the file `pyramid`: a picture; the indices and averages of its coding; the values and the picture that are
+// rebuilt from these; the bounds. Both calls are accepted.
+use crate::coding;
 use crate::comparing;
-use crate::fillers;
-use crate::reading;
-use crate::reporting;
-use crate::reporting::Finding;
-use crate::reporting::compared;
-use crate::reporting::difference;
-use crate::sizes;
-use crate::sizes::PyramidParts;
+use crate::parts;
+use crate::rebuilding;
 use crate::sizes::Sizes;
 use pyramid::Settings;
-ghost use Prim.Native.Nat.{_≤_};
-
-// What a coding leaves.
-fn check_coded(z: Sizes, p: PyramidParts, case: &[u8], levels: &[i16], work: &[i32]) -> Finding {
-    let index = comparing::indices(reading::rest(case, p.indices), levels, z.nodes);
-    if index < z.nodes {
-        return difference(reporting::INDEX, index);
-    }
-    let average = comparing::averages(reading::rest(case, p.averages), work, z.nodes);
-    if average < z.nodes {
-        return difference(reporting::AVERAGE, average);
-    }
-    let after = fillers::first_changed_work(work, z.nodes);
-    compared(reporting::AFTER_AVERAGES, after, work.len())
-}
-
-// Codes the picture that the case starts with, over filled buffers.
-fn check_coding(
-    s: Settings,
-    z: Sizes,
-    p: PyramidParts,
-    case: &[u8],
-    levels: &mut [i16],
-    work: &mut [i32],
-) -> Finding {
-    let pixels = z.pixels;
-    if case.len() < pixels {
-        return difference(reporting::CASE_CUT, 0);
-    }
-    fillers::fill_levels(levels);
-    fillers::fill_work(work);
-    let answer = pyramid::coding(s, &case[0..pixels], levels, work);
-    if answer != 0 {
-        return difference(reporting::CODING_ANSWER, answer as usize);
-    }
-    check_coded(z, p, case, levels, work)
-}
-
-// What a rebuilding leaves.
-fn check_rebuilt(z: Sizes, p: PyramidParts, case: &[u8], picture: &[u8], work: &[i32]) -> Finding {
-    let value = comparing::values(reading::rest(case, p.values), work, z.nodes);
-    if value < z.nodes {
-        return difference(reporting::VALUE, value);
-    }
-    let pixel = comparing::pixels(reading::rest(case, p.picture), picture, z.pixels);
-    if pixel < z.pixels {
-        return difference(reporting::PIXEL, pixel);
-    }
-    let after = fillers::first_changed_work(work, z.nodes);
-    compared(reporting::AFTER_VALUES, after, work.len())
-}
-
-// Rebuilds from the coded levels, over filled buffers.
-fn check_rebuilding(
-    s: Settings,
-    z: Sizes,
-    p: PyramidParts,
-    case: &[u8],
-    levels: &[i16],
-    picture: &mut [u8],
-    work: &mut [i32],
-) -> Finding {
-    fillers::fill_picture(picture);
-    fillers::fill_work(work);
-    let answer = pyramid::rebuilding(s, levels, picture, work);
-    if answer != 0 {
-        return difference(reporting::REBUILDING_ANSWER, answer as usize);
-    }
-    check_rebuilt(z, p, case, picture, work)
-}
+use test_support::reading;
+use test_support::reporting;
+use test_support::reporting::Finding;
+use test_support::reporting::compared;
+use test_support::reporting::difference;
 
 // The number of nodes and the bounds.
-fn check_settings(s: Settings, z: Sizes, p: PyramidParts, case: &[u8]) -> Finding {
+fn check_settings(s: Settings, z: Sizes, bounds: &[u8]) -> Finding {
     let t = pyramid::total_nodes(s);
     if t.refusal != 0 {
-        return difference(reporting::NODES_ANSWER, t.refusal as usize);
+        return difference(parts::NODES_ANSWER, t.refusal as usize);
     }
-    if t.nodes as usize != z.nodes {
-        return difference(reporting::NODES, t.nodes as usize);
+    if t.nodes as u32 != z.nodes {
+        return difference(parts::NODES, t.nodes as usize);
     }
     let b = pyramid::level_bounds(s);
     if b.refusal != 0 {
-        return difference(reporting::BOUNDS_ANSWER, b.refusal as usize);
+        return difference(parts::BOUNDS_ANSWER, b.refusal as usize);
     }
     let slots = b.levels;
-    let slot = comparing::bounds(reading::rest(case, p.bounds), slots, z.levels);
-    compared(reporting::BOUND, slot, 7)
+    let slot = comparing::bounds(bounds, slots, z.levels);
+    compared(parts::BOUND, slot, 7)
+}
+
+// Codes the picture that the case starts with, and rebuilds it.
+fn check_calls(
+    s: Settings,
+    z: Sizes,
+    case: &[u8],
+    levels: &mut [i16],
+    picture: &mut [u8],
+    work: &mut [i32],
+) -> Finding {
+    let pixels = z.pixels as usize;
+    if case.len() < pixels {
+        return difference(reporting::CASE_CUT, 0);
+    }
+    let coded = coding::check(s, z, &case[0..pixels], &case[pixels..], levels, work);
+    if coded.part != reporting::AGREES {
+        return coded;
+    }
+    let values = reading::rest(case, pixels + 4 * z.nodes as usize);
+    rebuilding::check(s, z, 0, values, levels, picture, work)
 }
 
 // Reads a case and checks it over buffers of its sizes.
@@ -108,20 +60,14 @@ pub(crate) fn check_read(
     levels: &mut [i16],
     picture: &mut [u8],
     work: &mut [i32],
-) -> Finding
-    requires { ⌜ (z .pixels ≤ 16641) × (z .nodes ≤ 116487) × (z .levels ≤ 7) ⌝ }
-{
-    let p = sizes::pyramid_parts(z);
-    if !reading::read_exactly(fd, case, p.end) {
+) -> Finding {
+    let bounds = 2 * z.pixels as usize + 8 * z.nodes as usize;
+    if !reading::read_exactly(fd, case, bounds + 2 * z.levels as usize) {
         return difference(reporting::CASE_CUT, 0);
     }
-    let settings = check_settings(s, z, p, case);
+    let settings = check_settings(s, z, reading::rest(case, bounds));
     if settings.part != reporting::AGREES {
         return settings;
     }
-    let coded = check_coding(s, z, p, case, levels, work);
-    if coded.part != reporting::AGREES {
-        return coded;
-    }
-    check_rebuilding(s, z, p, case, levels, picture, work)
+    check_calls(s, z, case, levels, picture, work)
 }

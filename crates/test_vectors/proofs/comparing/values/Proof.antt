@@ -13,56 +13,26 @@ abbrev μ-loop : tie.MeasureT-loop
 loop-holds : tie.Need-loop-holds Inv-loop μ-loop
 loop-holds c = search needs
 
+cast-place : tie.Need-cast-place Inv-loop μ-loop
+cast-place c = search needs
+
 returns : tie.Need-returns Inv-loop μ-loop
 returns c = search needs
 
+mul-if2 : tie.Need-mul-if2 Inv-loop μ-loop
+mul-if2 c = search needs
+
+shared-slice-copy-out-if2 : tie.Need-shared-slice-copy-out-if2 Inv-loop μ-loop
+shared-slice-copy-out-if2 c = search needs
+
+mul-signed32-at : tie.Need-mul-signed32-at Inv-loop μ-loop
+mul-signed32-at c = search needs
+
+signed32-at-requires : tie.Need-signed32-at-requires Inv-loop μ-loop
+signed32-at-requires c κs = search needs
+
 returns-2 : tie.Need-returns-2 Inv-loop μ-loop
 returns-2 c = search needs
-
-mul-if3 : tie.Need-mul-if3 Inv-loop μ-loop
-mul-if3 c = search needs
-
-shared-slice-copy-out-if3 : tie.Need-shared-slice-copy-out-if3 Inv-loop μ-loop
-shared-slice-copy-out-if3 c = search needs
-
-mul-signed32 : tie.Need-mul-signed32 Inv-loop μ-loop
-mul-signed32 c = search needs
-
-shared-slice-read-signed32 : tie.Need-shared-slice-read-signed32 Inv-loop μ-loop
-shared-slice-read-signed32 c = search needs
-
-mul-signed32-2 : tie.Need-mul-signed32-2 Inv-loop μ-loop
-mul-signed32-2 c = search needs
-
-add-signed32 : tie.Need-add-signed32 Inv-loop μ-loop
-add-signed32 c = search needs
-
-shared-slice-read-signed32-2 : tie.Need-shared-slice-read-signed32-2 Inv-loop μ-loop
-shared-slice-read-signed32-2 c = search needs
-
-mul-signed32-3 : tie.Need-mul-signed32-3 Inv-loop μ-loop
-mul-signed32-3 c = search needs
-
-add-signed32-2 : tie.Need-add-signed32-2 Inv-loop μ-loop
-add-signed32-2 c = search needs
-
-shared-slice-read-signed32-3 : tie.Need-shared-slice-read-signed32-3 Inv-loop μ-loop
-shared-slice-read-signed32-3 c = search needs
-
-mul-signed32-4 : tie.Need-mul-signed32-4 Inv-loop μ-loop
-mul-signed32-4 c = search needs
-
-add-signed32-3 : tie.Need-add-signed32-3 Inv-loop μ-loop
-add-signed32-3 c = search needs
-
-shared-slice-read-signed32-4 : tie.Need-shared-slice-read-signed32-4 Inv-loop μ-loop
-shared-slice-read-signed32-4 c = search needs
-
-signed32-requires : tie.Need-signed32-requires Inv-loop μ-loop
-signed32-requires c κs = search needs
-
-returns-3 : tie.Need-returns-3 Inv-loop μ-loop
-returns-3 c = search needs
 
 add-i : tie.Need-add-i Inv-loop μ-loop
 add-i c = search needs
@@ -73,8 +43,8 @@ loop-less c = search needs
 loop-again : tie.Need-loop-again Inv-loop μ-loop
 loop-again c = search needs
 
-returns-4 : tie.Need-returns-4 Inv-loop μ-loop
-returns-4 c = search needs
+returns-3 : tie.Need-returns-3 Inv-loop μ-loop
+returns-3 c = search needs
 
 pub values-spec : {M : Type 1} → statement M
 values-spec =
@@ -83,24 +53,14 @@ values-spec =
     Inv-loop
     μ-loop
     loop-holds
+    cast-place
     returns
+    mul-if2
+    shared-slice-copy-out-if2
+    mul-signed32-at
+    signed32-at-requires
     returns-2
-    mul-if3
-    shared-slice-copy-out-if3
-    mul-signed32
-    shared-slice-read-signed32
-    mul-signed32-2
-    add-signed32
-    shared-slice-read-signed32-2
-    mul-signed32-3
-    add-signed32-2
-    shared-slice-read-signed32-3
-    mul-signed32-4
-    add-signed32-3
-    shared-slice-read-signed32-4
-    signed32-requires
-    returns-3
     add-i
     loop-less
     loop-again
-    returns-4)
+    returns-3)
