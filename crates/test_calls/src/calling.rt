@@ -1,6 +1,12 @@
 // Calls over filled buffers. A call that is refused must leave every place of every lent buffer as it was.
 use crate::buffers;
 use pyramid::Settings;
+use test_support::fillers;
+
+// The two calls.
+pub(crate) const CODING: u16 = 0;
+
+pub(crate) const REBUILDING: u16 = 1;
 
 // The lengths of the buffers to lend: a picture of at most 48 pixels, at most 72 nodes.
 pub(crate) struct Lengths {
@@ -9,79 +15,69 @@ pub(crate) struct Lengths {
     pub work: usize,
 }
 
-// An index put at a place of the level buffer before a rebuilding.
+// An index put at a place of the level buffer before a call.
 pub(crate) struct Put {
     pub place: usize,
     pub index: i16,
 }
 
-fn is_only_start_replaced(work: &[i32], nodes: usize) -> bool {
-    if buffers::is_work_replaced(work, nodes) {
-        return buffers::is_work_kept(work, nodes);
-    }
-    false
-}
+// The index that stands at place 0 anyway.
+pub(crate) const NO_PUT: Put = Put { place: 0, index: 0 };
 
-// A coding of filled buffers: its answer, and what it leaves.
-fn check_coding(
+fn answer_of(
+    call: u16,
     s: Settings,
-    answer: u16,
-    nodes: usize,
     picture: &mut [u8],
     levels: &mut [i16],
     work: &mut [i32],
-) -> bool {
-    if pyramid::coding(s, picture, levels, work) != answer {
-        return false;
+) -> u16 {
+    if call == CODING {
+        return pyramid::coding(s, picture, levels, work);
     }
-    if !buffers::is_picture_kept(picture) {
-        return false;
-    }
-    if answer == 0 {
-        return is_only_start_replaced(work, nodes);
-    }
-    if !buffers::are_levels_kept(levels) {
-        return false;
-    }
-    buffers::is_work_kept(work, 0)
+    pyramid::rebuilding(s, levels, picture, work)
 }
 
-// The same of a rebuilding.
-fn check_rebuilding(
+// What a call leaves: all that it was lent, if it is refused; else what it only reads, and the places of the work buffer after
+// those of the nodes, as many as the level buffer has.
+fn is_left(call: u16, answer: u16, picture: &[u8], levels: &[i16], work: &[i32]) -> bool {
+    let is_picture_kept = fillers::first_changed_byte(picture, 0) == picture.len();
+    let are_levels_kept = fillers::first_changed_index(levels, true) == levels.len();
+    if answer != 0 {
+        return is_picture_kept && are_levels_kept && buffers::is_work_kept(work, 0);
+    }
+    let nodes = levels.len();
+    let is_start_replaced = buffers::is_work_replaced(work, nodes);
+    if call == CODING {
+        return is_picture_kept && is_start_replaced && buffers::is_work_kept(work, nodes);
+    }
+    are_levels_kept && is_start_replaced && buffers::is_work_kept(work, nodes)
+}
+
+// A call with filled buffers: its answer, and what it leaves.
+fn check(
+    call: u16,
     s: Settings,
-    answer: u16,
-    nodes: usize,
     put: Put,
+    answer: u16,
     picture: &mut [u8],
     levels: &mut [i16],
     work: &mut [i32],
 ) -> bool {
     let replaced = buffers::exchange(levels, put.place, put.index);
-    if pyramid::rebuilding(s, levels, picture, work) != answer {
+    if answer_of(call, s, picture, levels, work) != answer {
         return false;
     }
-    if buffers::exchange(levels, put.place, replaced) != put.index {
-        return false;
+    let left = buffers::exchange(levels, put.place, replaced);
+    if left != put.index {
+        if call == REBUILDING || answer != 0 {
+            return false;
+        }
     }
-    if !buffers::are_levels_kept(levels) {
-        return false;
-    }
-    if answer == 0 {
-        return is_only_start_replaced(work, nodes);
-    }
-    if !buffers::is_picture_kept(picture) {
-        return false;
-    }
-    buffers::is_work_kept(work, 0)
+    is_left(call, answer, picture, levels, work)
 }
 
-// The two calls.
-const CODING: u16 = 0;
-
-const REBUILDING: u16 = 1;
-
-// Whether a call with buffers of these lengths gives the answer. An accepted one replaces just the first `nodes` places of the work buffer.
-fn gives(call: u16, s: Settings, n: Lengths, put: Put, answer: u16, nodes: usize) -> bool {
+// Whether a call with buffers of these lengths gives the answer.
+pub(crate) fn gives(call: u16, s: Settings, n: Lengths, put: Put, answer: u16) -> bool {
     let mut picture: [u8; 48] = [0; 48];
     let mut levels: [i16; 72] = [0; 72];
     let mut work: [i32; 72] = [0; 72];
@@ -97,42 +93,16 @@ fn gives(call: u16, s: Settings, n: Lengths, put: Put, answer: u16, nodes: usize
     if 72 < w {
         return false;
     }
-    buffers::fill_picture(&mut picture);
-    buffers::fill_levels(&mut levels);
-    buffers::fill_work(&mut work);
-    if call == CODING {
-        return check_coding(
-            s,
-            answer,
-            nodes,
-            &mut picture[0..p],
-            &mut levels[0..l],
-            &mut work[0..w],
-        );
-    }
-    check_rebuilding(
+    fillers::fill_bytes(&mut picture);
+    fillers::fill_indices(&mut levels, true);
+    fillers::fill_work(&mut work);
+    check(
+        call,
         s,
-        answer,
-        nodes,
         put,
+        answer,
         &mut picture[0..p],
         &mut levels[0..l],
         &mut work[0..w],
     )
-}
-
-pub(crate) fn coding_gives(s: Settings, n: Lengths, answer: u16, nodes: usize) -> bool {
-    let put = Put { place: 0, index: 0 };
-    gives(CODING, s, n, put, answer, nodes)
-}
-
-// With an index put into the level buffer.
-pub(crate) fn rebuilding_gives(
-    s: Settings,
-    n: Lengths,
-    put: Put,
-    answer: u16,
-    nodes: usize,
-) -> bool {
-    gives(REBUILDING, s, n, put, answer, nodes)
 }

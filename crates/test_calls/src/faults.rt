@@ -1,61 +1,71 @@
 // Settings with one fault each, at both ends of every range, in every function that takes settings.
 use crate::base;
-use crate::base::base;
+use crate::base::BASE;
 use crate::calling;
+use crate::calling::CODING;
 use crate::calling::Lengths;
-use crate::calling::Put;
+use crate::calling::NO_PUT;
+use crate::calling::REBUILDING;
 use crate::shapes;
-use crate::tally::Tally;
-use crate::tally::counted;
 use pyramid::Settings;
+use test_support::comparing;
+use test_support::reporting;
+use test_support::reporting::Tally;
+use test_support::reporting::checked;
 
-// With 9 by 5 and N = 2, no C or R of these is lawful.
-const COLUMNS: [u16; 10] = [0, 1, 130, 133, 257, 65535, 8, 10, 7, 11];
+// The settings by number; slot l of the bins is SLOTS + l.
+const COLUMNS: u16 = 0;
 
-const ROWS: [u16; 10] = [0, 1, 130, 133, 257, 65535, 4, 6, 7, 3];
+const ROWS: u16 = 1;
 
-// Nor is a depth of these.
-const DEPTHS: [u16; 6] = [3, 6, 7, 8, 16, 65535];
+const DEPTH: u16 = 2;
 
-const KERNELS: [u16; 10] = [0, 1, 2, 3, 4, 5, 6, 7, 8, 65535];
+const KERNEL: u16 = 3;
 
-const SIZES: [u16; 5] = [0, 1, 255, 256, 65535];
+const SLOTS: u16 = 4;
+
+// The base settings with one set anew; with another depth every slot holds 1.
+fn with_setting(setting: u16, value: u16) -> Settings {
+    let mut s = BASE;
+    match setting {
+        COLUMNS => {
+            s.columns = value;
+        }
+        ROWS => {
+            s.rows = value;
+        }
+        DEPTH => {
+            s.depth = value;
+            s.bins = [1; 7];
+        }
+        KERNEL => {
+            s.kernel = value;
+        }
+        _ => {
+            let slot = (setting - SLOTS) as usize;
+            if slot < 7 {
+                s.bins[slot] = value;
+            }
+        }
+    }
+    s
+}
 
 // T is answered with 0 where the settings are refused.
-fn nodes_give(s: Settings, answer: u16, nodes: usize) -> bool {
+fn nodes_give(s: Settings, answer: u16) -> bool {
     let t = pyramid::total_nodes(s);
-    if t.refusal != answer {
-        return false;
+    let mut nodes = base::NODES;
+    if answer != 0 {
+        nodes = 0;
     }
-    if answer == 0 {
-        return t.nodes as usize == nodes;
-    }
-    t.nodes == 0
+    t.refusal == answer && t.nodes as usize == nodes
 }
 
 // The bounds are answered with seven zeros where the settings are refused.
 fn bounds_give(s: Settings, answer: u16) -> bool {
     let b = pyramid::level_bounds(s);
-    if b.refusal != answer {
-        return false;
-    }
-    if answer == 0 {
-        return true;
-    }
     let slots = b.levels;
-    let zeros: [u16; 7] = [0; 7];
-    are_slots(slots, zeros)
-}
-
-pub(crate) fn are_slots(slots: [u16; 7], expected: [u16; 7]) -> bool {
-    let mut i = 0;
-    while i < 7 {
-        if slots[i] != expected[i] {
-            return false;
-        }
-        i += 1;
-    }
-    true
+    b.refusal == answer && (answer == 0 || comparing::slots(slots, [0; 7]) == 7)
 }
 
 // The answer of all functions, with buffers of the lengths of the settings without the fault.
@@ -65,108 +75,62 @@ pub(crate) fn answered(t: Tally, s: Settings, answer: u16) -> Tally {
         levels: base::NODES,
         work: base::NODES,
     };
-    let put = Put { place: 0, index: 0 };
-    let mut u = counted(t, nodes_give(s, answer, base::NODES));
-    u = counted(u, bounds_give(s, answer));
-    u = counted(u, calling::coding_gives(s, n, answer, base::NODES));
-    u = counted(u, calling::rebuilding_gives(s, n, put, answer, base::NODES));
+    let mut u = checked(t, nodes_give(s, answer));
+    u = checked(u, bounds_give(s, answer));
+    u = checked(u, calling::gives(CODING, s, n, NO_PUT, answer));
+    u = checked(u, calling::gives(REBUILDING, s, n, NO_PUT, answer));
     shapes::answered(u, s, answer)
 }
 
-fn columns(t: Tally) -> Tally {
-    let mut u = t;
-    let mut s = base();
-    let mut i = 0;
-    while i < 10 {
-        s.columns = COLUMNS[i];
-        u = answered(u, s, 1);
-        i += 1;
+// The answer to a setting in place of the lawful one: 9 by 5, N = 2. No other C, R or N that is tried is lawful.
+fn answer_to(setting: u16, value: u16) -> u16 {
+    if setting < KERNEL {
+        return 1;
     }
-    u
-}
-
-fn rows(t: Tally) -> Tally {
-    let mut u = t;
-    let mut s = base();
-    let mut i = 0;
-    while i < 10 {
-        s.rows = ROWS[i];
-        u = answered(u, s, 1);
-        i += 1;
-    }
-    u
-}
-
-fn depths(t: Tally) -> Tally {
-    let mut u = t;
-    let ones: [u16; 7] = [1; 7];
-    let mut i = 0;
-    while i < 6 {
-        u = answered(u, base::settings(9, 5, DEPTHS[i], 4, ones), 1);
-        i += 1;
-    }
-    u
-}
-
-fn kernel_answer(kernel: u16) -> u16 {
-    if kernel < 3 {
-        return 2;
-    }
-    if 6 < kernel {
-        return 2;
-    }
-    0
-}
-
-fn kernels(t: Tally) -> Tally {
-    let mut u = t;
-    let mut s = base();
-    let mut i = 0;
-    while i < 10 {
-        s.kernel = KERNELS[i];
-        u = answered(u, s, kernel_answer(KERNELS[i]));
-        i += 1;
-    }
-    u
-}
-
-// N is 2.
-fn slot_answer(slot: usize, size: u16) -> u16 {
-    if 2 < slot {
-        if size == 0 {
+    if setting == KERNEL {
+        if 3 <= value && value <= 6 {
             return 0;
         }
-        return 3;
+        return 2;
     }
-    if size == 0 {
-        return 3;
+    let is_bin = 1 <= value && value <= 255;
+    if setting <= SLOTS + 2 && is_bin {
+        return 0;
     }
-    if 255 < size {
-        return 3;
+    if SLOTS + 2 < setting && value == 0 {
+        return 0;
     }
-    0
+    3
 }
 
-fn with_bin(slot: usize, size: u16) -> Settings {
-    let mut bins = base::bins();
-    if slot < 7 {
-        bins[slot] = size;
-    }
-    base::settings(9, 5, 2, 4, bins)
-}
-
-fn bins(t: Tally) -> Tally {
+// A setting with each of some values.
+fn each(t: Tally, setting: u16, values: &[u16]) -> Tally {
     let mut u = t;
     let mut i = 0;
-    while i < 35 {
-        let slot = i / 5;
-        let size = SIZES[i % 5];
-        u = answered(u, with_bin(slot, size), slot_answer(slot, size));
+    while i < values.len() {
+        let value = values[i];
+        u = answered(u, with_setting(setting, value), answer_to(setting, value));
         i += 1;
     }
     u
 }
 
-pub(crate) fn all(t: Tally) -> Tally {
-    bins(kernels(depths(rows(columns(t)))))
+// Each slot of the bins with each of some values.
+fn each_slot(t: Tally) -> Tally {
+    let mut u = t;
+    let mut setting = SLOTS;
+    while setting < SLOTS + 7 {
+        u = each(u, setting, &[0, 1, 255, 256, 65535]);
+        setting += 1;
+    }
+    u
+}
+
+pub(crate) fn all() -> Tally {
+    let mut u = reporting::empty();
+    u = each(u, COLUMNS, &[0, 1, 130, 133, 257, 65535, 8, 10, 7, 11]);
+    u = each(u, ROWS, &[0, 1, 130, 133, 257, 65535, 4, 6, 7, 3]);
+    u = each(u, DEPTH, &[3, 6, 7, 8, 16, 65535]);
+    u = each(u, KERNEL, &[0, 1, 2, 3, 4, 5, 6, 7, 8, 65535]);
+    each_slot(u)
 }

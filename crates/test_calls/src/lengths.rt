@@ -1,11 +1,14 @@
 // Buffers of other lengths than the settings ask for. Only the work buffer may be longer.
-use crate::base;
-use crate::base::base;
+use crate::base::BASE;
 use crate::calling;
+use crate::calling::CODING;
 use crate::calling::Lengths;
+use crate::calling::NO_PUT;
 use crate::calling::Put;
-use crate::tally::Tally;
-use crate::tally::counted;
+use crate::calling::REBUILDING;
+use test_support::reporting::Tally;
+use test_support::reporting::checked;
+use test_support::reporting::empty;
 
 // Both calls with buffers of these lengths.
 fn answered(t: Tally, picture: usize, levels: usize, work: usize, answer: u16) -> Tally {
@@ -15,15 +18,12 @@ fn answered(t: Tally, picture: usize, levels: usize, work: usize, answer: u16) -
         work: work,
     };
     let put = Put { place: 1, index: 1 };
-    let u = counted(t, calling::coding_gives(base(), n, answer, base::NODES));
-    counted(
-        u,
-        calling::rebuilding_gives(base(), n, put, answer, base::NODES),
-    )
+    let u = checked(t, calling::gives(CODING, BASE, n, NO_PUT, answer));
+    checked(u, calling::gives(REBUILDING, BASE, n, put, answer))
 }
 
-pub(crate) fn all(t: Tally) -> Tally {
-    let mut u = answered(t, 45, 66, 66, 0);
+pub(crate) fn all() -> Tally {
+    let mut u = answered(empty(), 45, 66, 66, 0);
     u = answered(u, 44, 66, 66, 5);
     u = answered(u, 46, 66, 66, 5);
     u = answered(u, 0, 66, 66, 5);

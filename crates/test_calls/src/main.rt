@@ -8,27 +8,31 @@ mod lengths;
 mod pieces;
 mod rounding;
 mod shapes;
-mod tally;
 
-use tally::empty;
-use tally::print;
+use calling::CODING;
+use calling::REBUILDING;
+use test_support::reporting;
+use test_support::reporting::Tally;
+
+// Writes the line of a group.
+fn report(group: u16, t: Tally) {
+    reporting::print_checks(
+        b"rounding|bin rule|piece A|sizes|deepest depth|index limit|faulty settings|ranges of indices|lengths of buffers|combinations of faults, coding|combinations of faults, rebuilding|",
+        group,
+        t,
+    );
+}
 
 fn main() {
-    print(b"rounding", rounding::rounded(empty()));
-    print(b"bin rule", rounding::indices(empty()));
-    print(b"piece A", pieces::piece_a(empty()));
-    print(b"sizes", pieces::sizes(empty()));
-    print(b"deepest depth", pieces::deepest_depths(empty()));
-    print(b"index limit", pieces::index_limit(empty()));
-    print(b"faulty settings", faults::all(empty()));
-    print(b"ranges of indices", shapes::ranges(empty()));
-    print(b"lengths of buffers", lengths::all(empty()));
-    print(
-        b"combinations of faults, coding",
-        combinations::coding(empty()),
-    );
-    print(
-        b"combinations of faults, rebuilding",
-        combinations::rebuilding(empty()),
-    );
+    report(0, rounding::rounded());
+    report(1, rounding::indices());
+    report(2, pieces::piece_a());
+    report(3, pieces::sizes());
+    report(4, pieces::deepest_depths());
+    report(5, pieces::index_limit());
+    report(6, faults::all());
+    report(7, shapes::ranges());
+    report(8, lengths::all());
+    report(9, combinations::all(CODING, 256));
+    report(10, combinations::all(REBUILDING, 512));
 }

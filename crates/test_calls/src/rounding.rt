@@ -1,13 +1,14 @@
 // Rounding and the bin rule: document 01's pieces, halves on both sides of 0, and the ends of the types.
-use crate::tally::Tally;
-use crate::tally::counted;
+use test_support::reporting::Tally;
+use test_support::reporting::checked;
+use test_support::reporting::empty;
 
 fn rounds(t: Tally, sum: i32, divisor: u16, answer: i32) -> Tally {
-    counted(t, quantizer::round_div(sum, divisor) == answer)
+    checked(t, quantizer::round_div(sum, divisor) == answer)
 }
 
-pub(crate) fn rounded(t: Tally) -> Tally {
-    let mut u = rounds(t, -1, 2, 0);
+pub(crate) fn rounded() -> Tally {
+    let mut u = rounds(empty(), -1, 2, 0);
     u = rounds(u, 1, 2, 1);
     u = rounds(u, -3, 2, -1);
     u = rounds(u, -201, 400, -1);
@@ -27,14 +28,14 @@ pub(crate) fn rounded(t: Tally) -> Tally {
 // The index of a value: with the bin's reciprocal as the factor, and with factors that are not.
 fn index_is(t: Tally, value: i32, bin: u16, answer: i32) -> Tally {
     let factor = quantizer::reciprocal(bin);
-    let mut u = counted(t, quantizer::bin_index(value, bin, factor) == answer);
-    u = counted(u, quantizer::bin_index(value, bin, 0) == answer);
-    u = counted(u, quantizer::bin_index(value, bin, 1) == answer);
-    counted(u, quantizer::bin_index(value, bin, u32::MAX) == answer)
+    let mut u = checked(t, quantizer::bin_index(value, bin, factor) == answer);
+    u = checked(u, quantizer::bin_index(value, bin, 0) == answer);
+    u = checked(u, quantizer::bin_index(value, bin, 1) == answer);
+    checked(u, quantizer::bin_index(value, bin, u32::MAX) == answer)
 }
 
-pub(crate) fn indices(t: Tally) -> Tally {
-    let mut u = index_is(t, 1, 2, 0);
+pub(crate) fn indices() -> Tally {
+    let mut u = index_is(empty(), 1, 2, 0);
     u = index_is(u, -1, 2, -1);
     u = index_is(u, 127, 255, 0);
     u = index_is(u, 128, 255, 1);

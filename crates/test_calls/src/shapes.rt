@@ -1,9 +1,10 @@
 // The calls on a shape alone and on a level buffer alone, and the test of a range of indices.
-use crate::buffers;
-use crate::tally::Tally;
-use crate::tally::counted;
 use pyramid::IndexRange;
 use pyramid::Settings;
+use test_support::fillers;
+use test_support::reporting::Tally;
+use test_support::reporting::checked;
+use test_support::reporting::empty;
 
 // A shape's bins are not looked at: T, or 0 where the shape is refused.
 fn nodes_give(s: Settings, refusal: u16, nodes: u16) -> bool {
@@ -32,7 +33,7 @@ fn level_gives(s: Settings, level: u16, refusal: u16, columns: u16, rows: u16) -
 // A level buffer of 66 small indices.
 fn levels_give(s: Settings, answer: u16) -> bool {
     let mut levels: [i16; 66] = [0; 66];
-    buffers::fill_levels(&mut levels);
+    fillers::fill_indices(&mut levels, true);
     pyramid::levels_refusal(s, &levels) == answer
 }
 
@@ -42,13 +43,13 @@ pub(crate) fn answered(t: Tally, s: Settings, answer: u16) -> Tally {
     if answer == 3 {
         refusal = 0;
     }
-    let mut u = counted(t, pyramid::settings_refusal(s) == answer);
-    u = counted(u, nodes_give(s, refusal, 66));
-    u = counted(u, level_gives(s, 0, refusal, 9, 5));
-    u = counted(u, level_gives(s, 2, refusal, 3, 2));
-    u = counted(u, level_gives(s, 3, refusal, 0, 0));
-    u = counted(u, level_gives(s, 65535, refusal, 0, 0));
-    counted(u, levels_give(s, answer))
+    let mut u = checked(t, pyramid::settings_refusal(s) == answer);
+    u = checked(u, nodes_give(s, refusal, 66));
+    u = checked(u, level_gives(s, 0, refusal, 9, 5));
+    u = checked(u, level_gives(s, 2, refusal, 3, 2));
+    u = checked(u, level_gives(s, 3, refusal, 0, 0));
+    u = checked(u, level_gives(s, 65535, refusal, 0, 0));
+    checked(u, levels_give(s, answer))
 }
 
 fn range_gives(t: Tally, low: i16, high: i16, bin: u16, answer: bool) -> Tally {
@@ -56,17 +57,17 @@ fn range_gives(t: Tally, low: i16, high: i16, bin: u16, answer: bool) -> Tally {
         low: low,
         high: high,
     };
-    counted(t, pyramid::range_ok(range, bin) == answer)
+    checked(t, pyramid::range_ok(range, bin) == answer)
 }
 
 fn widened_gives(t: Tally, index: i16, low: i16, high: i16) -> Tally {
     let range = IndexRange { low: -3, high: 5 };
     let w = pyramid::widened(range, index);
-    counted(t, w.low == low && w.high == high)
+    checked(t, w.low == low && w.high == high)
 }
 
-pub(crate) fn ranges(t: Tally) -> Tally {
-    let mut u = range_gives(t, -16, 16, 255, true);
+pub(crate) fn ranges() -> Tally {
+    let mut u = range_gives(empty(), -16, 16, 255, true);
     u = range_gives(u, -17, 16, 255, false);
     u = range_gives(u, -16, 17, 255, false);
     u = range_gives(u, -4096, 4096, 1, true);

@@ -4,11 +4,13 @@ use crate::answers::Expected;
 use crate::readers;
 use crate::reading;
 use crate::reading::Head;
-use crate::reporting;
-use crate::reporting::Finding;
-use crate::reporting::Tally;
-use crate::reporting::difference;
 use crate::writers;
+use test_support::reading::read_exactly;
+use test_support::reading::read_head;
+use test_support::reporting;
+use test_support::reporting::Finding;
+use test_support::reporting::Tally;
+use test_support::reporting::difference;
 
 // Both readers, and for an accepted file the writer.
 fn check_file(
@@ -62,13 +64,13 @@ fn check_next(
     out: &mut [u8],
 ) -> Finding {
     let mut start: [u8; 8] = [0; 8];
-    let part = reading::read_head(fd, &mut start);
+    let part = read_head(fd, &mut start);
     if part != reporting::AGREES {
         return difference(part, 0);
     }
     let h = reading::head_of(&start);
-    let length = h.length;
-    if !reading::read_exactly(fd, file, length) {
+    let length = h.length as usize;
+    if !read_exactly(fd, file, length) {
         return difference(reporting::CASE_CUT, 0);
     }
     if file.len() < length {
@@ -89,7 +91,7 @@ pub(crate) fn check_all(
     let mut left: u32 = 1000000;
     while 0 < left {
         let finding = check_next(fd, file, indices, levels, out);
-        if finding.part == reporting::VECTORS_END {
+        if finding.part == reporting::DATA_ENDS {
             return tally;
         }
         tally = reporting::counted(tally, finding);

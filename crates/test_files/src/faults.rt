@@ -1,115 +1,20 @@
 // Every set of the faults that the writer looks for, each fault in four variants: the lowest number is the answer.
 use crate::piece_a;
-use crate::reporting;
-use crate::reporting::Finding;
-use crate::reporting::Tally;
-use crate::reporting::counted;
-use crate::reporting::difference;
 use crate::writers;
 use bale::Note;
 use bale::Reading;
-use pyramid::Settings;
+use test_support::faults::has;
+use test_support::faults::lowest;
+use test_support::faults::with_faults;
+use test_support::reporting;
+use test_support::reporting::Finding;
+use test_support::reporting::Tally;
+use test_support::reporting::difference;
 ghost use mathlib.Core.Path.{_≡_};
 ghost use lib.ListN.{length};
 
-// The faults of a set, one bit each.
-const SIZE: u32 = 1;
-
-const KERNEL: u32 = 2;
-
-const BIN: u32 = 4;
-
-const READING: u32 = 8;
-
-const LEVELS: u32 = 16;
-
-const ROOM: u32 = 32;
-
-const INDEX: u32 = 64;
-
-fn has(faults: u32, fault: u32) -> bool {
-    faults & fault != 0
-}
-
-fn lowest(faults: u32) -> u16 {
-    if has(faults, SIZE) {
-        return 1;
-    }
-    if has(faults, KERNEL) {
-        return 2;
-    }
-    if has(faults, BIN) {
-        return 3;
-    }
-    if has(faults, READING) {
-        return 4;
-    }
-    if has(faults, LEVELS) {
-        return 6;
-    }
-    if has(faults, ROOM) {
-        return 8;
-    }
-    if has(faults, INDEX) {
-        return 11;
-    }
-    0
-}
-
-// Too few columns; too many rows; a depth that does not divide; columns that the depth does not divide.
-fn with_size(s: Settings, variant: u32) -> Settings {
-    let mut u = s;
-    match variant {
-        0 => {
-            u.columns = 1;
-        }
-        1 => {
-            u.rows = 130;
-        }
-        2 => {
-            u.depth = 2;
-        }
-        _ => {
-            u.columns = 4;
-        }
-    }
-    u
-}
-
-fn faulty_kernel(variant: u32) -> u16 {
-    match variant {
-        0 => 2,
-        1 => 7,
-        2 => 0,
-        _ => 65535,
-    }
-}
-
-// No bin; too large a bin; bins above the depth.
-fn faulty_bins(variant: u32) -> [u16; 7] {
-    match variant {
-        0 => [0, 4, 0, 0, 0, 0, 0],
-        1 => [10, 256, 0, 0, 0, 0, 0],
-        2 => [10, 4, 1, 0, 0, 0, 0],
-        _ => [10, 4, 0, 0, 0, 0, 65535],
-    }
-}
-
-fn settings(faults: u32, variant: u32) -> Settings {
-    let mut kernel = piece_a::KERNEL;
-    if has(faults, KERNEL) {
-        kernel = faulty_kernel(variant);
-    }
-    let mut bins = piece_a::bins();
-    if has(faults, BIN) {
-        bins = faulty_bins(variant);
-    }
-    let s = piece_a::settings(kernel, bins);
-    if has(faults, SIZE) {
-        return with_size(s, variant);
-    }
-    s
-}
+// The numbers of the faults in their order.
+const NUMBERS: [u16; 7] = [1, 2, 3, 4, 6, 8, 11];
 
 // A percentage above 100 or below 0, and a fault code of 0 or above 255.
 fn faulty_note(variant: u32) -> Note {
@@ -121,37 +26,40 @@ fn faulty_note(variant: u32) -> Note {
     }
 }
 
-fn note(faults: u32, variant: u32) -> Note {
-    if has(faults, READING) {
+fn note(is_faulty: bool, variant: u32) -> Note {
+    if is_faulty {
         return faulty_note(variant);
     }
     piece_a::note(piece_a::before_drier(), piece_a::at_press())
 }
 
 // An index times its bin beyond 4,096: at the first node of level 1, near the end of level 0, at the first of level 0, the last of level 1.
-fn faulty_levels(variant: u32) -> [i16; 14]
+fn lent_levels(is_faulty: bool, variant: u32) -> [i16; 14]
     ensures { λ r. ⌜ 14 ≡ length r ⌝ }
 {
-    match variant {
-        0 => [1025, 6, 6, 6, -3, -3, -3, -3, 7, -3, -3, -3, -3, 0],
-        1 => [6, 6, 6, 6, -3, -3, -3, -3, 7, -3, -3, 410, -3, 0],
-        2 => [6, 6, 6, 6, -410, -3, -3, -3, 7, -3, -3, -3, -3, 0],
-        _ => [6, 6, 6, -1025, -3, -3, -3, -3, 7, -3, -3, -3, -3, 0],
+    let mut levels = piece_a::LEVELS;
+    if is_faulty {
+        match variant {
+            0 => {
+                levels[0] = 1025;
+            }
+            1 => {
+                levels[11] = 410;
+            }
+            2 => {
+                levels[4] = -410;
+            }
+            _ => {
+                levels[3] = -1025;
+            }
+        }
     }
+    levels
 }
 
-fn lent_levels(faults: u32, variant: u32) -> [i16; 14]
-    ensures { λ r. ⌜ 14 ≡ length r ⌝ }
-{
-    if has(faults, INDEX) {
-        return faulty_levels(variant);
-    }
-    piece_a::levels()
-}
-
-fn lent_places(faults: u32, variant: u32) -> usize {
-    if has(faults, LEVELS) {
-        if has(variant, 2) {
+fn lent_places(is_faulty: bool, variant: u32) -> usize {
+    if is_faulty {
+        if 2 <= variant {
             return piece_a::NODES + 1;
         }
         return piece_a::NODES - 1;
@@ -160,50 +68,48 @@ fn lent_places(faults: u32, variant: u32) -> usize {
 }
 
 // A buffer of the file's 58 bytes or of more, or with the fault of fewer.
-fn lent_room(faults: u32, variant: u32) -> usize {
-    if has(faults, ROOM) {
-        if has(variant, 2) {
+fn lent_room(is_faulty: bool, variant: u32) -> usize {
+    if is_faulty {
+        if 2 <= variant {
             return 0;
         }
         return 57;
     }
-    if has(variant, 1) {
+    if variant % 2 == 1 {
         return 64;
     }
     58
 }
 
-fn check_set(faults: u32, variant: u32) -> Finding {
-    let s = settings(faults, variant);
-    let note = note(faults, variant);
-    let levels = lent_levels(faults, variant);
-    let mut file: [u8; 58] = [0; 58];
+// Lends the first places of the levels and the first bytes of a buffer.
+fn check_lent(answer: u16, faults: u32, variant: u32, table: &[u16], levels: &[i16]) -> Finding {
+    let s = with_faults(piece_a::SETTINGS, faults, table, variant);
+    let note = note(has(faults, table, 4), variant);
+    let n = lent_room(has(faults, table, 8), variant);
+    let file = piece_a::file();
     let mut out: [u8; 64] = [0; 64];
-    let p = lent_places(faults, variant);
-    let n = lent_room(faults, variant);
-    if 14 < p {
-        return difference(reporting::CASE_CUT, p);
-    }
     if 64 < n {
         return difference(reporting::CASE_CUT, n);
     }
-    piece_a::put_file(&mut file);
-    writers::check_writing(
-        lowest(faults),
-        s,
-        note,
-        &levels[0..p],
-        &file,
-        &mut out[0..n],
-    )
+    writers::check_writing(answer, s, note, levels, &file, &mut out[0..n])
+}
+
+fn check_set(faults: u32, variant: u32, table: &[u16]) -> Finding {
+    let levels = lent_levels(has(faults, table, 11), variant);
+    let p = lent_places(has(faults, table, 6), variant);
+    if 14 < p {
+        return difference(reporting::CASE_CUT, p);
+    }
+    check_lent(lowest(faults, table), faults, variant, table, &levels[0..p])
 }
 
 // The 128 sets.
 pub(crate) fn check_all() -> Tally {
+    let table = NUMBERS;
     let mut tally = reporting::empty();
     let mut i: u32 = 0;
     while i < 512 {
-        tally = counted(tally, check_set(i / 4, i % 4));
+        tally = reporting::counted(tally, check_set(i / 4, i % 4, &table));
         i += 1;
     }
     tally

@@ -1,19 +1,16 @@
 // Holds the bale file's readers and writer to files that another implementation answered (tests/reference), and the writer to every set of faults.
 mod answers;
 mod cases;
-mod comparing;
-mod decoding;
 mod faults;
-mod fillers;
+mod parts;
 mod piece_a;
 mod readers;
 mod reading;
-mod reporting;
 mod singles;
 mod writers;
 
 use libc::STDOUT_FILENO;
-use reporting::Tally;
+use test_support::reporting::Tally;
 
 // The longest file has 65,594 bytes. The largest that is accepted has 44,770 bytes and 22,359 nodes.
 fn run(fd: i32) -> Tally {
@@ -34,11 +31,11 @@ fn report(path: &[u8]) {
     }
     let tally = run(fd);
     libc::close(fd);
-    reporting::print(path, tally);
+    parts::print(path, tally);
 }
 
 fn main() {
     report(b"files.bin");
-    reporting::print(b"sets of faults, writing", faults::check_all());
-    reporting::print(b"single readings, writing", singles::check_all());
+    parts::print(b"sets of faults, writing", faults::check_all());
+    parts::print(b"single readings, writing", singles::check_all());
 }

@@ -1,13 +1,14 @@
 // The two readers over a case's file.
 use crate::answers;
 use crate::answers::Expected;
-use crate::comparing;
-use crate::fillers;
-use crate::reporting;
-use crate::reporting::Finding;
-use crate::reporting::compared;
-use crate::reporting::difference;
-use crate::reporting::of_call;
+use crate::parts;
+use test_support::comparing;
+use test_support::fillers;
+use test_support::reporting;
+use test_support::reporting::Finding;
+use test_support::reporting::compared;
+use test_support::reporting::difference;
+use test_support::reporting::of_call;
 ghost use Prim.Native.Nat.{_≤_};
 
 // As many places as the file has nodes, or some where its shape is refused.
@@ -23,23 +24,23 @@ fn places(nodes: u16) -> usize
 // The reader that is lent no level buffer.
 pub(crate) fn check_checking(e: Expected, file: &[u8]) -> Finding {
     let b = bale::check_file(file);
-    of_call(reporting::CHECKING, answers::compare(b, e))
+    of_call(parts::CHECKING, answers::compare(b, e))
 }
 
 // The reader that is lent a filled level buffer: an accepted file leaves its indices there, a refused one nothing.
 fn check_reading(e: Expected, file: &[u8], indices: &[u8], levels: &mut [i16]) -> Finding {
-    fillers::fill_levels(levels);
+    fillers::fill_indices(levels, false);
     let b = bale::read_file(file, levels);
     let answer = answers::compare(b, e);
     if answer.part != reporting::AGREES {
         return answer;
     }
     if e.refusal == 0 {
-        let index = comparing::indices(indices, levels);
-        return compared(reporting::INDEX, index, levels.len());
+        let index = comparing::indices(indices, levels, levels.len());
+        return compared(parts::INDEX, index, levels.len());
     }
-    let kept = fillers::first_changed_index(levels);
-    compared(reporting::KEPT_INDEX, kept, levels.len())
+    let kept = fillers::first_changed_index(levels, false);
+    compared(parts::KEPT_INDEX, kept, levels.len())
 }
 
 // The same with the first n places of a buffer.
@@ -71,25 +72,11 @@ fn check_other_places(
     }
     let other = answers::refused(refusal);
     let n = places(nodes);
-    let longer = check_places(
-        reporting::READING_LONGER,
-        other,
-        file,
-        indices,
-        levels,
-        n + 1,
-    );
+    let longer = check_places(parts::READING_LONGER, other, file, indices, levels, n + 1);
     if longer.part != reporting::AGREES {
         return longer;
     }
-    check_places(
-        reporting::READING_SHORTER,
-        other,
-        file,
-        indices,
-        levels,
-        n - 1,
-    )
+    check_places(parts::READING_SHORTER, other, file, indices, levels, n - 1)
 }
 
 // With the places that the file needs, and with other numbers of them.
@@ -104,5 +91,5 @@ pub(crate) fn check_lent(
     if other.part != reporting::AGREES {
         return other;
     }
-    check_places(reporting::READING, e, file, indices, levels, places(nodes))
+    check_places(parts::READING, e, file, indices, levels, places(nodes))
 }

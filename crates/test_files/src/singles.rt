@@ -1,12 +1,14 @@
 // Single readings that a caller may hand to the writer, before the drier and at the press.
 use crate::piece_a;
-use crate::reporting;
-use crate::reporting::Finding;
-use crate::reporting::Tally;
-use crate::reporting::counted;
 use crate::writers;
 use bale::Note;
 use bale::Reading;
+use test_support::reporting;
+use test_support::reporting::Finding;
+use test_support::reporting::Tally;
+ghost use mathlib.Core.Path.{_≡_};
+ghost use Prim.Native.Nat.{_≤_};
+ghost use lib.ListN.{length};
 
 // A reading; and its kind and number in the file, or refusal 4.
 struct Trial {
@@ -85,40 +87,48 @@ fn note(reading: Reading, is_press: bool) -> Note {
     piece_a::note(reading, piece_a::at_press())
 }
 
-// The kind and the number into that place of piece A's file.
-fn put_reading(file: &mut [u8], kind: u8, number: u32, is_press: bool) {
-    let bytes = [
-        kind,
-        (number % 256) as u8,
-        (number / 256 % 256) as u8,
-        (number / 65536 % 256) as u8,
-        (number / 16777216 % 256) as u8,
-    ];
-    if is_press {
-        piece_a::put(file, 23, &bytes);
-    } else {
-        piece_a::put(file, 18, &bytes);
-    }
+// Where that reading starts in the file.
+fn place(is_press: bool) -> usize
+    ensures { λ r. ⌜ r ≤ 23 ⌝ }
+{
+    if is_press { 23 } else { 18 }
+}
+
+// Piece A's file with the kind and the number of that reading.
+fn file(kind: u8, number: u32, is_press: bool) -> [u8; 58]
+    ensures { λ r. ⌜ 58 ≡ length r ⌝ }
+{
+    let at = place(is_press);
+    let mut file = piece_a::file();
+    file[at] = kind;
+    file[at + 1] = (number % 256) as u8;
+    file[at + 2] = (number / 256 % 256) as u8;
+    file[at + 3] = (number / 65536 % 256) as u8;
+    file[at + 4] = (number / 16777216 % 256) as u8;
+    file
 }
 
 fn check_single(x: Trial, is_press: bool) -> Finding {
     let reading = x.reading;
     let note = note(reading, is_press);
-    let s = piece_a::settings(piece_a::KERNEL, piece_a::bins());
-    let levels = piece_a::levels();
-    let mut file: [u8; 58] = [0; 58];
+    let levels = piece_a::LEVELS;
+    let file = file(x.kind, x.number, is_press);
     let mut out: [u8; 64] = [0; 64];
-    piece_a::put_file(&mut file);
-    put_reading(&mut file, x.kind, x.number, is_press);
-    let nodes = piece_a::NODES;
-    writers::check_writing(x.refusal, s, note, &levels[0..nodes], &file, &mut out)
+    writers::check_writing(
+        x.refusal,
+        piece_a::SETTINGS,
+        note,
+        &levels[0..13],
+        &file,
+        &mut out,
+    )
 }
 
 pub(crate) fn check_all() -> Tally {
     let mut tally = reporting::empty();
     let mut i: u32 = 0;
     while i < 38 {
-        tally = counted(tally, check_single(single(i / 2), i % 2 == 1));
+        tally = reporting::counted(tally, check_single(single(i / 2), i % 2 == 1));
         i += 1;
     }
     tally

@@ -1,30 +1,31 @@
 // The writer over what a file was read to hold.
-use crate::comparing;
-use crate::fillers;
-use crate::reporting;
-use crate::reporting::Finding;
-use crate::reporting::compared;
-use crate::reporting::difference;
-use crate::reporting::of_call;
+use crate::parts;
 use bale::FileSize;
 use bale::Note;
 use pyramid::Settings;
+use test_support::comparing;
+use test_support::fillers;
+use test_support::reporting;
+use test_support::reporting::Finding;
+use test_support::reporting::compared;
+use test_support::reporting::difference;
+use test_support::reporting::of_call;
 
 // How many bytes the longer file buffer has after those of the file.
 const AFTER: usize = 24;
 
 fn compare_size(got: FileSize, refusal: u16, size: usize) -> Finding {
     if got.refusal != refusal {
-        return difference(reporting::REFUSAL, got.refusal as usize);
+        return difference(parts::REFUSAL, got.refusal as usize);
     }
     if got.size != size {
-        return difference(reporting::SIZE, got.size);
+        return difference(parts::SIZE, got.size);
     }
     difference(reporting::AGREES, 0)
 }
 
 fn check_size(s: Settings, size: usize) -> Finding {
-    of_call(reporting::SIZING, compare_size(bale::file_size(s), 0, size))
+    of_call(parts::SIZING, compare_size(bale::file_size(s), 0, size))
 }
 
 // A writing into a filled buffer: one that is accepted leaves the file there, and the bytes after it; a refused one leaves all.
@@ -47,10 +48,10 @@ pub(crate) fn check_writing(
     }
     let byte = comparing::bytes(file, out, size);
     if byte < size {
-        return difference(reporting::BYTE, byte);
+        return difference(parts::BYTE, byte);
     }
     let kept = fillers::first_changed_byte(out, size);
-    compared(reporting::KEPT_BYTE, kept, out.len())
+    compared(parts::KEPT_BYTE, kept, out.len())
 }
 
 // The same with the first n bytes of a buffer.
@@ -83,7 +84,7 @@ fn check_longer(s: Settings, note: Note, levels: &[i16], file: &[u8], out: &mut 
         return difference(reporting::CASE_CUT, size);
     }
     let n = size + AFTER;
-    check_room(reporting::WRITING_LONGER, 0, s, note, levels, file, out, n)
+    check_room(parts::WRITING_LONGER, 0, s, note, levels, file, out, n)
 }
 
 // A buffer that lacks one byte.
@@ -93,7 +94,7 @@ fn check_shorter(s: Settings, note: Note, levels: &[i16], file: &[u8], out: &mut
         return difference(reporting::CASE_CUT, 0);
     }
     check_room(
-        reporting::WRITING_SHORTER,
+        parts::WRITING_SHORTER,
         8,
         s,
         note,
@@ -107,7 +108,7 @@ fn check_shorter(s: Settings, note: Note, levels: &[i16], file: &[u8], out: &mut
 // Buffers of the file's length, of more bytes, and of one byte fewer.
 fn check_rooms(s: Settings, note: Note, levels: &[i16], file: &[u8], out: &mut [u8]) -> Finding {
     let size = file.len();
-    let exact = check_room(reporting::WRITING, 0, s, note, levels, file, out, size);
+    let exact = check_room(parts::WRITING, 0, s, note, levels, file, out, size);
     if exact.part != reporting::AGREES {
         return exact;
     }

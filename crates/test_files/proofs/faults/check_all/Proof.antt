@@ -5,16 +5,19 @@ use Rattle.test_files.proofs.faults.check_all.Statement.{statement}
 use Rattle.test_files.proofs.faults.check_all.Tie as tie
 
 abbrev Inv-loop : tie.InvT-loop
-Inv-loop tally₀ i₀ tally i = Unit {0}
+Inv-loop table tally₀ i₀ tally i = Unit {0}
 
 abbrev μ-loop : tie.MeasureT-loop
-μ-loop tally₀ i₀ tally i = 512 - i
+μ-loop table tally₀ i₀ tally i = 512 - i
 
 empty-requires : tie.Need-empty-requires Inv-loop μ-loop
 empty-requires c κs = search needs
 
 loop-holds : tie.Need-loop-holds Inv-loop μ-loop
 loop-holds c = search needs
+
+slice-aggregate-check-set : tie.Need-slice-aggregate-check-set Inv-loop μ-loop
+slice-aggregate-check-set c = search needs
 
 check-set-requires : tie.Need-check-set-requires Inv-loop μ-loop
 check-set-requires c κs = search needs
@@ -42,6 +45,7 @@ check-all-spec =
     μ-loop
     empty-requires
     loop-holds
+    slice-aggregate-check-set
     check-set-requires
     counted-requires
     add-i
