@@ -1,6 +1,7 @@
 // Calls over filled buffers. A call that is refused must leave every place of every lent buffer as it was.
 use crate::buffers;
 use pyramid::Settings;
+use test_support::comparing::least;
 use test_support::fillers;
 
 // The two calls.
@@ -24,7 +25,7 @@ pub(crate) struct Put {
 // The index that stands at place 0 anyway.
 pub(crate) const NO_PUT: Put = Put { place: 0, index: 0 };
 
-fn answer_of(
+pub(crate) fn answer_of(
     call: u16,
     s: Settings,
     picture: &mut [u8],
@@ -53,7 +54,7 @@ fn is_left(call: u16, answer: u16, picture: &[u8], levels: &[i16], work: &[i32])
     are_levels_kept && is_start_replaced && buffers::is_work_kept(work, nodes)
 }
 
-// A call with filled buffers: its answer, and what it leaves.
+// A call with filled buffers: its answer, and what it leaves. The index that was put stays, unless a coding is accepted.
 fn check(
     call: u16,
     s: Settings,
@@ -64,16 +65,10 @@ fn check(
     work: &mut [i32],
 ) -> bool {
     let replaced = buffers::exchange(levels, put.place, put.index);
-    if answer_of(call, s, picture, levels, work) != answer {
-        return false;
-    }
+    let got = answer_of(call, s, picture, levels, work);
     let left = buffers::exchange(levels, put.place, replaced);
-    if left != put.index {
-        if call == REBUILDING || answer != 0 {
-            return false;
-        }
-    }
-    is_left(call, answer, picture, levels, work)
+    let is_put_kept = left == put.index || call == CODING && answer == 0;
+    is_left(call, answer, picture, levels, work) && got == answer && is_put_kept
 }
 
 // Whether a call with buffers of these lengths gives the answer.
@@ -81,18 +76,9 @@ pub(crate) fn gives(call: u16, s: Settings, n: Lengths, put: Put, answer: u16) -
     let mut picture: [u8; 48] = [0; 48];
     let mut levels: [i16; 72] = [0; 72];
     let mut work: [i32; 72] = [0; 72];
-    let p = n.picture;
-    let l = n.levels;
-    let w = n.work;
-    if 48 < p {
-        return false;
-    }
-    if 72 < l {
-        return false;
-    }
-    if 72 < w {
-        return false;
-    }
+    let p = least(n.picture, 48);
+    let l = least(n.levels, 72);
+    let w = least(n.work, 72);
     fillers::fill_bytes(&mut picture);
     fillers::fill_indices(&mut levels, true);
     fillers::fill_work(&mut work);

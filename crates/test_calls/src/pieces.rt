@@ -6,6 +6,7 @@ use crate::calling::Lengths;
 use crate::calling::NO_PUT;
 use crate::calling::Put;
 use crate::calling::REBUILDING;
+use crate::calling::answer_of;
 use crate::faults;
 use pyramid::Settings;
 use test_support::comparing;
@@ -67,25 +68,25 @@ fn rebuilt(
 }
 
 fn piece_a_coded(t: Tally) -> Tally {
-    let picture: [u8; 9] = [0, 0, 0, 0, 100, 0, 0, 0, 0];
+    let mut picture: [u8; 9] = [0, 0, 0, 0, 100, 0, 0, 0, 0];
     let indices = INDICES_A;
     let averages: [i32; 13] = [25, 25, 25, 25, 0, 0, 0, 0, 100, 0, 0, 0, 0];
     let mut levels: [i16; 13] = [0; 13];
     let mut work: [i32; 14] = [0; 14];
     fillers::fill_indices(&mut levels, true);
     fillers::fill_work(&mut work);
-    let answer = pyramid::coding(PIECE_A, &picture, &mut levels, &mut work);
+    let answer = answer_of(CODING, PIECE_A, &mut picture, &mut levels, &mut work);
     coded(t, answer, &indices, &averages, &levels, &work)
 }
 
 fn piece_a_rebuilt(t: Tally) -> Tally {
-    let indices = INDICES_A;
+    let mut indices = INDICES_A;
     let values: [i32; 13] = [24, 24, 24, 24, -6, -6, -6, -6, 94, -6, -6, -6, -6];
     let pixels: [u8; 9] = [0, 0, 0, 0, 94, 0, 0, 0, 0];
     let mut picture: [u8; 9] = [7; 9];
     let mut work: [i32; 14] = [0; 14];
     fillers::fill_work(&mut work);
-    let answer = pyramid::rebuilding(PIECE_A, &indices, &mut picture, &mut work);
+    let answer = answer_of(REBUILDING, PIECE_A, &mut picture, &mut indices, &mut work);
     let u = rebuilt(t, answer, &values, &pixels, &picture, &work);
     checked(u, buffers::is_work_kept(&work, 13))
 }
@@ -158,13 +159,13 @@ pub(crate) fn deepest_depths() -> Tally {
 
 // Rebuilds 2 by 2 with bin 255 from one index that is not 0.
 fn rebuilt_from(t: Tally, index: i16, value: i32, pixel: u8) -> Tally {
-    let indices: [i16; 4] = [0, 0, 0, index];
+    let mut indices: [i16; 4] = [0, 0, 0, index];
     let values: [i32; 4] = [0, 0, 0, value];
     let pixels: [u8; 4] = [0, 0, 0, pixel];
     let mut picture: [u8; 4] = [7; 4];
     let mut work: [i32; 4] = [7; 4];
     let s = settings(2, 2, 0, 5, 255, 0);
-    let answer = pyramid::rebuilding(s, &indices, &mut picture, &mut work);
+    let answer = answer_of(REBUILDING, s, &mut picture, &mut indices, &mut work);
     rebuilt(t, answer, &values, &pixels, &picture, &work)
 }
 

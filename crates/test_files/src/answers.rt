@@ -49,13 +49,21 @@ fn held_at(said: &[u8], at: u16) -> Held {
 }
 
 // The settings and the readings that a case says.
-pub(crate) fn accepted(said: &[u8]) -> Expected {
+fn accepted(said: &[u8]) -> Expected {
     Expected {
         refusal: 0,
         settings: decoding::settings_of(said),
         before_drier: held_at(said, 22),
         at_press: held_at(said, 27),
     }
+}
+
+// What a case says, where it is accepted.
+pub(crate) fn said_by(refusal: u16, said: &[u8]) -> Expected {
+    if refusal == 0 {
+        return accepted(said);
+    }
+    refused(refusal)
 }
 
 // The first of the eleven settings that differs, C, R, N, k and then the bins; or 11.

@@ -10,16 +10,6 @@ mod singles;
 mod writers;
 
 use libc::STDOUT_FILENO;
-use test_support::reporting::Tally;
-
-// The longest file has 65,594 bytes. The largest that is accepted has 44,770 bytes and 22,359 nodes.
-fn run(fd: i32) -> Tally {
-    let mut file: [u8; 65594] = [0; 65594];
-    let mut indices: [u8; 44718] = [0; 44718];
-    let mut levels: [i16; 22360] = [0; 22360];
-    let mut out: [u8; 44794] = [0; 44794];
-    cases::check_all(fd, &mut file, &mut indices, &mut levels, &mut out)
-}
 
 // Runs the cases of the vectors and writes their line.
 fn report(path: &[u8]) {
@@ -29,7 +19,7 @@ fn report(path: &[u8]) {
         io::write_all(STDOUT_FILENO, b": cannot be opened\n");
         return;
     }
-    let tally = run(fd);
+    let tally = cases::check_all(fd);
     libc::close(fd);
     parts::print(path, tally);
 }

@@ -2,6 +2,11 @@
 use test_support::reporting;
 use test_support::reporting::Tally;
 
+// The largest file that is accepted has 44,770 bytes and 22,359 nodes.
+pub(crate) const MOST_BYTES: usize = 44770;
+
+pub(crate) const MOST_PLACES: usize = 22360;
+
 pub(crate) const CHECKING: u16 = 1;
 
 pub(crate) const READING: u16 = 2;

@@ -1,15 +1,19 @@
 // The writer over what a file was read to hold.
 use crate::parts;
+use crate::parts::MOST_PLACES;
 use bale::FileSize;
 use bale::Note;
 use pyramid::Settings;
 use test_support::comparing;
+use test_support::comparing::least;
 use test_support::fillers;
 use test_support::reporting;
 use test_support::reporting::Finding;
 use test_support::reporting::compared;
 use test_support::reporting::difference;
+use test_support::reporting::either;
 use test_support::reporting::of_call;
+ghost use Prim.Native.Nat.{_≤_};
 
 // How many bytes the longer file buffer has after those of the file.
 const AFTER: usize = 24;
@@ -28,21 +32,13 @@ fn check_size(s: Settings, size: usize) -> Finding {
     of_call(parts::SIZING, compare_size(bale::file_size(s), 0, size))
 }
 
-// A writing into a filled buffer: one that is accepted leaves the file there, and the bytes after it; a refused one leaves all.
-pub(crate) fn check_writing(
-    refusal: u16,
-    s: Settings,
-    note: Note,
-    levels: &[i16],
-    file: &[u8],
-    out: &mut [u8],
-) -> Finding {
+// What a writing answers and leaves: one that is accepted the file, and the bytes after it as they were; a refused one all.
+fn compare_file(got: FileSize, refusal: u16, file: &[u8], out: &[u8]) -> Finding {
     let mut size = 0;
     if refusal == 0 {
         size = file.len();
     }
-    fillers::fill_bytes(out);
-    let answer = compare_size(bale::write_file(s, note, levels, out), refusal, size);
+    let answer = compare_size(got, refusal, size);
     if answer.part != reporting::AGREES {
         return answer;
     }
@@ -54,19 +50,41 @@ pub(crate) fn check_writing(
     compared(parts::KEPT_BYTE, kept, out.len())
 }
 
-// The same with the first n bytes of a buffer.
-fn check_room(
-    call: u16,
+// A writing into a filled buffer.
+pub(crate) fn check_writing(
     refusal: u16,
     s: Settings,
     note: Note,
     levels: &[i16],
     file: &[u8],
     out: &mut [u8],
-    n: usize,
 ) -> Finding {
-    if out.len() < n {
-        return difference(reporting::CASE_CUT, n);
+    fillers::fill_bytes(out);
+    let got = bale::write_file(s, note, levels, out);
+    compare_file(got, refusal, file, out)
+}
+
+// The bytes of the buffer that is lent for a file of so many bytes.
+fn room(call: u16, size: usize) -> usize
+    ensures { λ r. ⌜ r ≤ 44794 ⌝ }
+{
+    let n = least(size, parts::MOST_BYTES);
+    if call == parts::WRITING_LONGER {
+        return n + AFTER;
+    }
+    if call == parts::WRITING_SHORTER && 0 < n {
+        return n - 1;
+    }
+    n
+}
+
+// A writing with such a buffer: 8 where it lacks a byte.
+fn check_room(call: u16, s: Settings, note: Note, levels: &[i16], file: &[u8]) -> Finding {
+    let mut out: [u8; 44794] = [0; 44794];
+    let n = room(call, file.len());
+    let mut refusal = 0;
+    if call == parts::WRITING_SHORTER {
+        refusal = 8;
     }
     of_call(
         call,
@@ -74,71 +92,25 @@ fn check_room(
     )
 }
 
-// A buffer with bytes after those of the file.
-fn check_longer(s: Settings, note: Note, levels: &[i16], file: &[u8], out: &mut [u8]) -> Finding {
-    let size = file.len();
-    if out.len() < AFTER {
-        return difference(reporting::CASE_CUT, AFTER);
-    }
-    if out.len() - AFTER < size {
-        return difference(reporting::CASE_CUT, size);
-    }
-    let n = size + AFTER;
-    check_room(parts::WRITING_LONGER, 0, s, note, levels, file, out, n)
-}
-
-// A buffer that lacks one byte.
-fn check_shorter(s: Settings, note: Note, levels: &[i16], file: &[u8], out: &mut [u8]) -> Finding {
-    let size = file.len();
-    if size == 0 {
-        return difference(reporting::CASE_CUT, 0);
-    }
-    check_room(
-        parts::WRITING_SHORTER,
-        8,
-        s,
-        note,
-        levels,
-        file,
-        out,
-        size - 1,
-    )
-}
-
 // Buffers of the file's length, of more bytes, and of one byte fewer.
-fn check_rooms(s: Settings, note: Note, levels: &[i16], file: &[u8], out: &mut [u8]) -> Finding {
-    let size = file.len();
-    let exact = check_room(parts::WRITING, 0, s, note, levels, file, out, size);
-    if exact.part != reporting::AGREES {
-        return exact;
-    }
-    let longer = check_longer(s, note, levels, file, out);
-    if longer.part != reporting::AGREES {
-        return longer;
-    }
-    check_shorter(s, note, levels, file, out)
+fn check_rooms(s: Settings, note: Note, levels: &[i16], file: &[u8]) -> Finding {
+    let size = check_size(s, file.len());
+    let exact = check_room(parts::WRITING, s, note, levels, file);
+    let longer = check_room(parts::WRITING_LONGER, s, note, levels, file);
+    let shorter = check_room(parts::WRITING_SHORTER, s, note, levels, file);
+    either(either(size, exact), either(longer, shorter))
 }
 
-fn check_read(file: &[u8], levels: &mut [i16], out: &mut [u8]) -> Finding {
+fn check_read(file: &[u8], levels: &mut [i16]) -> Finding {
     let b = bale::read_file(file, levels);
     let s = b.settings;
     let note = b.note;
-    let size = check_size(s, file.len());
-    if size.part != reporting::AGREES {
-        return size;
-    }
-    check_rooms(s, note, levels, file, out)
+    check_rooms(s, note, levels, file)
 }
 
 // Writes what an accepted file with so many nodes is read to hold: the same bytes.
-pub(crate) fn check_written(
-    nodes: usize,
-    file: &[u8],
-    levels: &mut [i16],
-    out: &mut [u8],
-) -> Finding {
-    if levels.len() < nodes {
-        return difference(reporting::CASE_CUT, nodes);
-    }
-    check_read(file, &mut levels[0..nodes], out)
+pub(crate) fn check_written(nodes: u16, file: &[u8]) -> Finding {
+    let mut levels: [i16; MOST_PLACES] = [0; MOST_PLACES];
+    let n = least(nodes as usize, MOST_PLACES);
+    check_read(file, &mut levels[0..n])
 }

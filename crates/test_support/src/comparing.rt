@@ -4,7 +4,8 @@ ghost use mathlib.Core.Path.{_≡_};
 ghost use Prim.Native.Nat.{_≤_, min};
 ghost use Rattle.test_support.specs.Comparisons.{firstDifference, firstOtherIndex};
 
-pub(crate) fn least(a: usize, b: usize) -> usize
+// The lesser of two numbers of places.
+pub fn least(a: usize, b: usize) -> usize
     ensures { λ r. ⌜ (r ≡ min a b) × (r ≤ a) × (r ≤ b) ⌝ }
 {
     if a < b { a } else { b }

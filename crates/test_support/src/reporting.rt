@@ -2,6 +2,7 @@
 use libc::STDOUT_FILENO;
 ghost use mathlib.Core.Path.{_≡_};
 ghost use mathlib.Core.Bool.{cond};
+ghost use lib.Dec.{eqb};
 ghost use Rattle.test_support.specs.Tallies.{differs, differsBelow, next, counted};
 
 // The parts of a case that every program has; a program's own start at 3.
@@ -44,6 +45,23 @@ pub fn compared(part: u16, place: usize, n: usize) -> Finding
         return difference(part, place);
     }
     difference(AGREES, 0)
+}
+
+// A case that is cut, unless all of it was read.
+pub fn cut_unless(is_read: bool) -> Finding
+    ensures { λ r. ⌜ r ≡ differs (cond «is_read» 0 2) 0 ⌝ }
+{
+    if is_read {
+        return difference(AGREES, 0);
+    }
+    difference(CASE_CUT, 0)
+}
+
+// The first of two findings that is a difference.
+pub fn either(f: Finding, g: Finding) -> Finding
+    ensures { λ r. ⌜ r ≡ cond (eqb (f .part) 0) g f ⌝ }
+{
+    if f.part == AGREES { g } else { f }
 }
 
 // The same finding, of a call.

@@ -10,90 +10,50 @@ use test_support::reading;
 use test_support::reporting;
 use test_support::reporting::Finding;
 use test_support::reporting::Tally;
+use test_support::reporting::compared;
 use test_support::reporting::difference;
+use test_support::reporting::either;
 
 // The two kinds of files.
 pub(crate) const PYRAMID: u16 = 0;
 
 pub(crate) const LEVELS: u16 = 1;
 
-// Reads and checks a case over buffers of its sizes.
-fn check_read(
-    kind: u16,
-    fd: i32,
-    s: Settings,
-    z: Sizes,
-    case: &mut [u8],
-    levels: &mut [i16],
-    picture: &mut [u8],
-    work: &mut [i32],
-) -> Finding {
+// Settings with no sizes, or with larger ones than the buffers have.
+fn check_sizes(z: Sizes) -> Finding {
+    let are_nodes_few = z.nodes as usize <= sizes::MOST_NODES;
+    let are_pixels_few = z.pixels as usize <= sizes::MOST_PIXELS;
+    let fits = z.levels != 0 && are_nodes_few && are_pixels_few;
+    compared(parts::SETTINGS, fits as usize, 1)
+}
+
+// Reads and checks a case.
+fn check_read(kind: u16, fd: i32, s: Settings, z: Sizes, case: &mut [u8]) -> Finding {
     if kind == PYRAMID {
-        return pyramid_cases::check_read(fd, s, z, case, levels, picture, work);
+        return pyramid_cases::check_read(fd, s, z, case);
     }
-    levels_cases::check_read(fd, s, z, case, levels, picture, work)
+    levels_cases::check_read(fd, s, z, case)
 }
 
-// Lends the parts of the buffers that a case takes.
-fn check_sized(
-    kind: u16,
-    fd: i32,
-    s: Settings,
-    case: &mut [u8],
-    levels: &mut [i16],
-    picture: &mut [u8],
-    work: &mut [i32],
-) -> Finding {
-    let z = sizes::sizes_of(s);
-    let nodes = z.nodes as usize;
-    let pixels = z.pixels as usize;
-    let places = nodes + sizes::AFTER;
-    if z.levels == 0 || levels.len() < nodes || picture.len() < pixels || work.len() < places {
-        return difference(parts::SETTINGS, 0);
-    }
-    check_read(
-        kind,
-        fd,
-        s,
-        z,
-        case,
-        &mut levels[0..nodes],
-        &mut picture[0..pixels],
-        &mut work[0..places],
-    )
-}
-
-// Reads the settings of the next case, and checks it.
-fn check_next(
-    kind: u16,
-    fd: i32,
-    case: &mut [u8],
-    levels: &mut [i16],
-    picture: &mut [u8],
-    work: &mut [i32],
-) -> Finding {
+// Reads the settings of the next case, and then the case, which has 212,190 bytes at most.
+fn check_next(kind: u16, fd: i32) -> Finding {
     let mut head: [u8; 22] = [0; 22];
+    let mut case: [u8; 212190] = [0; 212190];
     let part = reading::read_head(fd, &mut head);
     if part != reporting::AGREES {
         return difference(part, 0);
     }
     let s = decoding::settings_of(&head);
-    check_sized(kind, fd, s, case, levels, picture, work)
+    let z = sizes::sizes_of(s);
+    either(check_sizes(z), check_read(kind, fd, s, z, &mut case))
 }
 
 // All cases to the end of the file. A file has fewer than a million.
-pub(crate) fn check_all(
-    kind: u16,
-    fd: i32,
-    case: &mut [u8],
-    levels: &mut [i16],
-    picture: &mut [u8],
-    work: &mut [i32],
-) -> Tally {
+pub(crate) fn check_all(kind: u16, fd: i32) -> Tally {
     let mut tally = reporting::empty();
     let mut left: u32 = 1000000;
     while 0 < left {
-        let finding = check_next(kind, fd, case, levels, picture, work);
+        let finding = check_next(kind, fd);
         if finding.part == reporting::DATA_ENDS {
             return tally;
         }

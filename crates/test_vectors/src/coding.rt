@@ -1,16 +1,23 @@
 // An accepted coding.
 use crate::comparing;
 use crate::parts;
+use crate::sizes::AFTER;
+use crate::sizes::MOST_NODES;
+use crate::sizes::MOST_PLACES;
 use crate::sizes::Sizes;
 use pyramid::Settings;
+use test_support::comparing::least;
 use test_support::fillers;
 use test_support::reading;
 use test_support::reporting::Finding;
 use test_support::reporting::compared;
 use test_support::reporting::difference;
 
-// What a coding leaves. The bytes hold the indices and then the averages.
-fn check_coded(z: Sizes, bytes: &[u8], levels: &[i16], work: &[i32]) -> Finding {
+// What a coding answers and leaves. The bytes hold the indices and then the averages.
+fn compare(z: Sizes, answer: u16, bytes: &[u8], levels: &[i16], work: &[i32]) -> Finding {
+    if answer != 0 {
+        return difference(parts::CODING_ANSWER, answer as usize);
+    }
     let nodes = z.nodes as usize;
     let index = test_support::comparing::indices(bytes, levels, nodes);
     if index < nodes {
@@ -26,7 +33,7 @@ fn check_coded(z: Sizes, bytes: &[u8], levels: &[i16], work: &[i32]) -> Finding 
 }
 
 // Codes a picture over filled buffers. The bytes hold what comes after the picture.
-pub(crate) fn check(
+fn check_lent(
     s: Settings,
     z: Sizes,
     picture: &[u8],
@@ -37,8 +44,21 @@ pub(crate) fn check(
     fillers::fill_indices(levels, false);
     fillers::fill_work(work);
     let answer = pyramid::coding(s, picture, levels, work);
-    if answer != 0 {
-        return difference(parts::CODING_ANSWER, answer as usize);
-    }
-    check_coded(z, bytes, levels, work)
+    compare(z, answer, bytes, levels, work)
+}
+
+// Codes the picture that the case starts with.
+pub(crate) fn check(s: Settings, z: Sizes, case: &[u8]) -> Finding {
+    let mut levels: [i16; MOST_NODES] = [0; MOST_NODES];
+    let mut work: [i32; MOST_PLACES] = [0; MOST_PLACES];
+    let pixels = least(z.pixels as usize, case.len());
+    let nodes = least(z.nodes as usize, MOST_NODES);
+    check_lent(
+        s,
+        z,
+        &case[0..pixels],
+        &case[pixels..],
+        &mut levels[0..nodes],
+        &mut work[0..nodes + AFTER],
+    )
 }

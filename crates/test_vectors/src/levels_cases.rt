@@ -3,46 +3,28 @@
 use crate::rebuilding;
 use crate::sizes::Sizes;
 use pyramid::Settings;
+use test_support::comparing::least;
 use test_support::decoding;
 use test_support::reading;
-use test_support::reporting;
 use test_support::reporting::Finding;
-use test_support::reporting::difference;
+use test_support::reporting::cut_unless;
+use test_support::reporting::either;
 
-// In place of the answer of a case that is cut. No case has it.
-const CUT: u16 = 65535;
-
-// Reads a case: its indices into the level buffer; its values and its picture, if it is accepted, into the bytes.
-// The answer is the case's, or CUT.
-fn read_case(fd: i32, z: Sizes, bytes: &mut [u8], levels: &mut [i16]) -> u16 {
-    let indices = 2 * z.nodes as usize;
-    if !reading::read_exactly(fd, bytes, indices + 2) {
-        return CUT;
-    }
-    reading::load_indices(bytes, levels);
-    let answer = decoding::unsigned16_at(bytes, indices);
+// The bytes after the answer.
+fn bytes_after(answer: u16, z: Sizes) -> usize {
     if answer != 0 {
-        return answer;
-    }
-    if reading::read_exactly(fd, bytes, 4 * z.nodes as usize + z.pixels as usize) {
         return 0;
     }
-    CUT
+    4 * z.nodes as usize + z.pixels as usize
 }
 
-// Reads a case and checks it over buffers of its sizes.
-pub(crate) fn check_read(
-    fd: i32,
-    s: Settings,
-    z: Sizes,
-    case: &mut [u8],
-    levels: &mut [i16],
-    picture: &mut [u8],
-    work: &mut [i32],
-) -> Finding {
-    let answer = read_case(fd, z, case, levels);
-    if answer == CUT {
-        return difference(reporting::CASE_CUT, 0);
-    }
-    rebuilding::check(s, z, answer, case, levels, picture, work)
+// Reads a case and checks it.
+pub(crate) fn check_read(fd: i32, s: Settings, z: Sizes, case: &mut [u8]) -> Finding {
+    let indices = 2 * z.nodes as usize;
+    let are_indices_read = reading::read_exactly(fd, case, indices + 2);
+    let answer = decoding::unsigned16_at(case, indices);
+    let end = least(indices + 2, case.len());
+    let is_rest_read = reading::read_exactly(fd, &mut case[end..], bytes_after(answer, z));
+    let rebuilt = rebuilding::check(s, z, answer, case, reading::rest(case, end));
+    either(cut_unless(are_indices_read && is_rest_read), rebuilt)
 }

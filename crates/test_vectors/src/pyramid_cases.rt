@@ -1,5 +1,5 @@
 // The cases of the file `pyramid`: a picture; the indices and averages of its coding; the values and the picture that are
-// rebuilt from these; the bounds. Both calls are accepted.
+// rebuilt from these indices; the bounds. Both calls are accepted.
 use crate::coding;
 use crate::comparing;
 use crate::parts;
@@ -7,10 +7,11 @@ use crate::rebuilding;
 use crate::sizes::Sizes;
 use pyramid::Settings;
 use test_support::reading;
-use test_support::reporting;
 use test_support::reporting::Finding;
 use test_support::reporting::compared;
+use test_support::reporting::cut_unless;
 use test_support::reporting::difference;
+use test_support::reporting::either;
 
 // The number of nodes and the bounds.
 fn check_settings(s: Settings, z: Sizes, bounds: &[u8]) -> Finding {
@@ -30,44 +31,20 @@ fn check_settings(s: Settings, z: Sizes, bounds: &[u8]) -> Finding {
     compared(parts::BOUND, slot, 7)
 }
 
-// Codes the picture that the case starts with, and rebuilds it.
-fn check_calls(
-    s: Settings,
-    z: Sizes,
-    case: &[u8],
-    levels: &mut [i16],
-    picture: &mut [u8],
-    work: &mut [i32],
-) -> Finding {
+// Codes the picture of a case, and rebuilds it.
+fn check_calls(s: Settings, z: Sizes, case: &[u8]) -> Finding {
     let pixels = z.pixels as usize;
-    if case.len() < pixels {
-        return difference(reporting::CASE_CUT, 0);
-    }
-    let coded = coding::check(s, z, &case[0..pixels], &case[pixels..], levels, work);
-    if coded.part != reporting::AGREES {
-        return coded;
-    }
     let values = reading::rest(case, pixels + 4 * z.nodes as usize);
-    rebuilding::check(s, z, 0, values, levels, picture, work)
+    let coded = coding::check(s, z, case);
+    let rebuilt = rebuilding::check(s, z, 0, reading::rest(case, pixels), values);
+    either(coded, rebuilt)
 }
 
-// Reads a case and checks it over buffers of its sizes.
-pub(crate) fn check_read(
-    fd: i32,
-    s: Settings,
-    z: Sizes,
-    case: &mut [u8],
-    levels: &mut [i16],
-    picture: &mut [u8],
-    work: &mut [i32],
-) -> Finding {
+// Reads a case and checks it.
+pub(crate) fn check_read(fd: i32, s: Settings, z: Sizes, case: &mut [u8]) -> Finding {
     let bounds = 2 * z.pixels as usize + 8 * z.nodes as usize;
-    if !reading::read_exactly(fd, case, bounds + 2 * z.levels as usize) {
-        return difference(reporting::CASE_CUT, 0);
-    }
+    let is_read = reading::read_exactly(fd, case, bounds + 2 * z.levels as usize);
     let settings = check_settings(s, z, reading::rest(case, bounds));
-    if settings.part != reporting::AGREES {
-        return settings;
-    }
-    check_calls(s, z, case, levels, picture, work)
+    let called = check_calls(s, z, case);
+    either(cut_unless(is_read), either(settings, called))
 }

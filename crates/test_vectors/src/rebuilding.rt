@@ -1,8 +1,13 @@
 // A rebuilding, accepted or refused.
 use crate::comparing;
 use crate::parts;
+use crate::sizes::AFTER;
+use crate::sizes::MOST_NODES;
+use crate::sizes::MOST_PIXELS;
+use crate::sizes::MOST_PLACES;
 use crate::sizes::Sizes;
 use pyramid::Settings;
+use test_support::comparing::least;
 use test_support::fillers;
 use test_support::reading;
 use test_support::reporting::Finding;
@@ -36,8 +41,19 @@ fn check_refused(picture: &[u8], work: &[i32]) -> Finding {
     compared(parts::REFUSED_WORK, place, work.len())
 }
 
-// Rebuilds over filled buffers, to the answer that the case has.
-pub(crate) fn check(
+// What a rebuilding answers and leaves, to the answer that the case has.
+fn compare(z: Sizes, answer: u16, got: u16, bytes: &[u8], picture: &[u8], work: &[i32]) -> Finding {
+    if got != answer {
+        return difference(parts::REBUILDING_ANSWER, got as usize);
+    }
+    if answer == 0 {
+        return check_accepted(z, bytes, picture, work);
+    }
+    check_refused(picture, work)
+}
+
+// Rebuilds over filled buffers. The bytes hold the values and then the picture.
+fn check_lent(
     s: Settings,
     z: Sizes,
     answer: u16,
@@ -49,11 +65,24 @@ pub(crate) fn check(
     fillers::fill_bytes(picture);
     fillers::fill_work(work);
     let got = pyramid::rebuilding(s, levels, picture, work);
-    if got != answer {
-        return difference(parts::REBUILDING_ANSWER, got as usize);
-    }
-    if answer == 0 {
-        return check_accepted(z, bytes, picture, work);
-    }
-    check_refused(picture, work)
+    compare(z, answer, got, bytes, picture, work)
+}
+
+// Rebuilds from indices in bytes, to the answer that the case has.
+pub(crate) fn check(s: Settings, z: Sizes, answer: u16, indices: &[u8], bytes: &[u8]) -> Finding {
+    let mut levels: [i16; MOST_NODES] = [0; MOST_NODES];
+    let mut picture: [u8; MOST_PIXELS] = [0; MOST_PIXELS];
+    let mut work: [i32; MOST_PLACES] = [0; MOST_PLACES];
+    let nodes = least(z.nodes as usize, MOST_NODES);
+    let pixels = least(z.pixels as usize, MOST_PIXELS);
+    reading::load_indices(indices, &mut levels);
+    check_lent(
+        s,
+        z,
+        answer,
+        bytes,
+        &levels[0..nodes],
+        &mut picture[0..pixels],
+        &mut work[0..nodes + AFTER],
+    )
 }

@@ -2,8 +2,15 @@
 use pyramid::Settings;
 ghost use Prim.Native.Nat.{_≤_};
 
+// The largest case has 212,190 bytes, 22,359 nodes and 16,641 pixels.
+pub(crate) const MOST_NODES: usize = 22359;
+
+pub(crate) const MOST_PIXELS: usize = 16641;
+
 // How many places the work buffer has after those of the nodes.
 pub(crate) const AFTER: usize = 24;
+
+pub(crate) const MOST_PLACES: usize = MOST_NODES + AFTER;
 
 // What is in a case: its nodes, pixels and levels, or 0 of each for settings that have no sizes.
 pub(crate) struct Sizes {

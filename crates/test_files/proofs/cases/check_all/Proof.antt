@@ -1,15 +1,13 @@
 -- `test_files::cases::check_all` is safe and ends. Assumes nothing.
 use borrow.Author.Needs.{needs}
-use lib.ListN.{length}
-use mathlib.Core.Path.{_≡_}
 use Rattle.test_files.proofs.cases.check_all.Statement.{statement}
 use Rattle.test_files.proofs.cases.check_all.Tie as tie
 
 abbrev Inv-loop : tie.InvT-loop
-Inv-loop fd file₀ indices₀ levels₀ out₀ tally₀ left₀ file indices levels out tally left = (length file ≡ length file₀) × (length indices ≡ length indices₀) × (length levels ≡ length levels₀) × (length out ≡ length out₀)
+Inv-loop fd tally₀ left₀ tally left = Unit {0}
 
 abbrev μ-loop : tie.MeasureT-loop
-μ-loop fd file₀ indices₀ levels₀ out₀ tally₀ left₀ file indices levels out tally left = left
+μ-loop fd tally₀ left₀ tally left = left
 
 empty-requires : tie.Need-empty-requires Inv-loop μ-loop
 empty-requires c κs = search needs
@@ -19,18 +17,6 @@ loop-holds c = search needs
 
 check-next-requires : tie.Need-check-next-requires Inv-loop μ-loop
 check-next-requires c κs = search needs
-
-same-length : tie.Need-same-length Inv-loop μ-loop
-same-length c = search needs
-
-same-length-2 : tie.Need-same-length-2 Inv-loop μ-loop
-same-length-2 c = search needs
-
-same-length-3 : tie.Need-same-length-3 Inv-loop μ-loop
-same-length-3 c = search needs
-
-same-length-4 : tie.Need-same-length-4 Inv-loop μ-loop
-same-length-4 c = search needs
 
 returns : tie.Need-returns Inv-loop μ-loop
 returns c = search needs
@@ -47,18 +33,6 @@ loop-less c = search needs
 loop-again : tie.Need-loop-again Inv-loop μ-loop
 loop-again c = search needs
 
-same-length-5 : tie.Need-same-length-5 Inv-loop μ-loop
-same-length-5 c = search needs
-
-same-length-6 : tie.Need-same-length-6 Inv-loop μ-loop
-same-length-6 c = search needs
-
-same-length-7 : tie.Need-same-length-7 Inv-loop μ-loop
-same-length-7 c = search needs
-
-same-length-8 : tie.Need-same-length-8 Inv-loop μ-loop
-same-length-8 c = search needs
-
 returns-2 : tie.Need-returns-2 Inv-loop μ-loop
 returns-2 c = search needs
 
@@ -71,17 +45,9 @@ check-all-spec =
     empty-requires
     loop-holds
     check-next-requires
-    same-length
-    same-length-2
-    same-length-3
-    same-length-4
     returns
     counted-requires
     sub-left
     loop-less
     loop-again
-    same-length-5
-    same-length-6
-    same-length-7
-    same-length-8
     returns-2)
