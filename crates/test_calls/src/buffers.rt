@@ -31,12 +31,13 @@ pub(crate) fn is_work_replaced(work: &[i32], n: usize) -> bool {
     true
 }
 
+// Whether the level buffer starts with the indices expected.
 pub(crate) fn are_levels(levels: &[i16], expected: &[i16]) -> bool {
-    if levels.len() != expected.len() {
+    if levels.len() < expected.len() {
         return false;
     }
     let mut i = 0;
-    while i < levels.len() {
+    while i < expected.len() {
         if levels[i] != expected[i] {
             return false;
         }

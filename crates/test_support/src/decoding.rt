@@ -1,7 +1,6 @@
 // Little-endian numbers and settings from bytes. A byte past the end counts as 0.
 use pyramid::Settings;
 ghost use mathlib.Core.Path.{_≡_};
-ghost use Prim.Native.Nat.{_<_};
 ghost use lib.ListN.{getD};
 ghost use Rattle.test_support.specs.Numbers.{unsigned16, unsigned32, signed16, signed32, settings};
 

@@ -9,7 +9,7 @@ abbrev Inv-loop : tie.InvT-loop
 Inv-loop levels expected i₀ i = Unit {0}
 
 abbrev μ-loop : tie.MeasureT-loop
-μ-loop levels expected i₀ i = length levels - i
+μ-loop levels expected i₀ i = length expected - i
 
 returns : tie.Need-returns Inv-loop μ-loop
 returns c = search needs

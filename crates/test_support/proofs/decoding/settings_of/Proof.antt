@@ -40,7 +40,7 @@ unsigned16-at-requires-11 c κs = search needs
 
 returns : tie.Need-returns
 unfolding settings tabulate
-returns c = cc
+returns c = rw (c .unsigned16-at11 .ensures, c .before .unsigned16-at10 .ensures, c .before .before .unsigned16-at9 .ensures, c .before .before .before .unsigned16-at8 .ensures, c .before .before .before .before .unsigned16-at7 .ensures, c .before .before .before .before .before .unsigned16-at6 .ensures, c .before .before .before .before .before .before .unsigned16-at5 .ensures, c .before .before .before .before .before .before .before .unsigned16-at4 .ensures, c .before .before .before .before .before .before .before .before .unsigned16-at3 .ensures, c .before .before .before .before .before .before .before .before .before .unsigned16-at2 .ensures, c .before .before .before .before .before .before .before .before .before .before .unsigned16-at .ensures)
 
 pub settings-of-spec : {M : Type 1} → statement M
 settings-of-spec =

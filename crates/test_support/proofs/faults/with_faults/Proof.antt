@@ -24,7 +24,10 @@ with-size-requires c κs = search needs
 
 returns : tie.Need-returns
 unfolding withFaults
-returns c = cc
+returns c =
+    let k = c .before .before in
+    let b = k .before .before in
+    rw (c .with-size .ensures, c .before .has3 .ensures, k .with-kernel .ensures, k .before .has2 .ensures, b .with-bins .ensures, b .before .has .ensures)
 
 pub with-faults-spec : {M : Type 1} → statement M
 with-faults-spec =
