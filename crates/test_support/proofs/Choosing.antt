@@ -7,7 +7,7 @@ use native.Mathlib.Numerals.{add-one}
 use borrow.Author.Tests.{eq-eqb, ne-eqb}
 use lib.ListN.{length, getD, drop, drop-of-length-le}
 use lib.Seq.{drop-cons}
-use Rattle.test_support.specs.FaultSets.{chosen, member}
+use Rattle.test_support.specs.Definitions.FaultSets.{chosen, member}
 
 module _ (bits : ℕ) (table : List ℕ) (i : ℕ) where
   pub chosen-past : length table ≤ i → chosen bits (drop i table) ≡ []

@@ -4,7 +4,7 @@ use mathlib.Core.List.{List}
 use Prim.Native.Nat.{ℕ, _+_, _≤_}
 use native.Mathlib.Omega.{arith}
 use lib.ListN.{length, List·getD-eq-default}
-use Rattle.test_support.specs.Numbers.{unsigned16}
+use Rattle.test_support.specs.Definitions.Numbers.{unsigned16}
 
 pub past-end : (bytes : List ℕ) (at : ℕ) → length bytes ≤ at → unsigned16 bytes at ≡ 0
 unfolding unsigned16

@@ -7,7 +7,7 @@ use native.Mathlib.Decide.{decLt}
 use native.Mathlib.Omega.{arith}
 use borrow.Author.Tests.{lt-ltb, le-ltb}
 use lib.Dec.{ltb}
-use Rattle.test_support.specs.Searches.{firstFailure}
+use Rattle.test_support.specs.Definitions.Searches.{firstFailure}
 
 -- the places below i pass the test
 abbrev pub Passed : (ℕ → Bool) → ℕ → Type 0

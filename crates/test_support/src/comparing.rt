@@ -2,7 +2,7 @@
 use crate::decoding;
 ghost use mathlib.Core.Path.{_≡_};
 ghost use Prim.Native.Nat.{_≤_, min};
-ghost use Rattle.test_support.specs.Comparisons.{firstDifference, firstOtherIndex};
+ghost use Rattle.test_support.specs.Definitions.Comparisons.{firstDifference, firstOtherIndex};
 
 // The lesser of two numbers of places.
 pub fn least(a: usize, b: usize) -> usize

@@ -2,7 +2,7 @@
 use pyramid::Settings;
 ghost use mathlib.Core.Path.{_≡_};
 ghost use lib.ListN.{getD};
-ghost use Rattle.test_support.specs.Numbers.{unsigned16, unsigned32, signed16, signed32, settings};
+ghost use Rattle.test_support.specs.Definitions.Numbers.{unsigned16, unsigned32, signed16, signed32, settings};
 
 fn byte_at(bytes: &[u8], at: usize) -> u8
     ensures { λ r. ⌜ r ≡ getD (now (bytes .entry)) at 0 ⌝ }

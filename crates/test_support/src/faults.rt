@@ -3,8 +3,8 @@ use pyramid::Settings;
 ghost use mathlib.Core.Path.{_≡_};
 ghost use mathlib.Core.Bool.{cond};
 ghost use Prim.Native.Nat.{_<_, min};
-ghost use Rattle.test_support.specs.FaultSets.{chosen, member, first};
-ghost use Rattle.test_support.specs.FaultySettings.{more, withSize, withKernel, withBins, withFaults};
+ghost use Rattle.test_support.specs.Definitions.FaultSets.{chosen, member, first};
+ghost use Rattle.test_support.specs.Definitions.FaultySettings.{more, withSize, withKernel, withBins, withFaults};
 
 // Whether a number is in a set.
 pub fn has(faults: u32, table: &[u16], number: u16) -> bool

@@ -1,9 +1,9 @@
 // What buffers hold before a call, different from place to place, and the first place that a call has changed.
 ghost use mathlib.Core.Path.{_≡_};
 ghost use lib.ListN.{length};
-ghost use Rattle.mathematics.specs.Tables.{tabulate};
-ghost use Rattle.test_support.specs.Fillers.{byteFiller, indexFiller, workFiller};
-ghost use Rattle.test_support.specs.Comparisons.{firstChangedByte, firstChangedIndex, firstChangedWork};
+ghost use Rattle.mathematics.specs.Definitions.Tables.{tabulate};
+ghost use Rattle.test_support.specs.Definitions.Fillers.{byteFiller, indexFiller, workFiller};
+ghost use Rattle.test_support.specs.Definitions.Comparisons.{firstChangedByte, firstChangedIndex, firstChangedWork};
 
 fn byte_filler(i: usize) -> u8
     ensures { λ r. ⌜ r ≡ byteFiller i ⌝ }

@@ -6,9 +6,9 @@ ghost use mathlib.Core.Path.{_≡_};
 ghost use mathlib.Core.Bool.{true, false};
 ghost use Prim.Native.Nat.{_*_, _/_, _≤_, _<_, min};
 ghost use lib.ListN.{length, drop};
-ghost use Rattle.mathematics.specs.Tables.{tabulate};
-ghost use Rattle.mathematics.specs.Splices.{splice};
-ghost use Rattle.test_support.specs.Numbers.{signed16};
+ghost use Rattle.mathematics.specs.Definitions.Tables.{tabulate};
+ghost use Rattle.mathematics.specs.Inner.Splices.{splice};
+ghost use Rattle.test_support.specs.Definitions.Numbers.{signed16};
 
 // Reads n bytes to the start of a buffer; false where the data ends before, or the buffer, which then is not changed.
 pub fn read_exactly(fd: i32, bytes: &mut [u8], n: usize) -> bool

@@ -3,7 +3,7 @@ use libc::STDOUT_FILENO;
 ghost use mathlib.Core.Path.{_≡_};
 ghost use mathlib.Core.Bool.{cond};
 ghost use lib.Dec.{eqb};
-ghost use Rattle.test_support.specs.Tallies.{differs, differsBelow, next, counted};
+ghost use Rattle.test_support.specs.Definitions.Tallies.{differs, differsBelow, next, counted};
 
 // The parts of a case that every program has; a program's own start at 3.
 pub const AGREES: u16 = 0;

@@ -5,7 +5,7 @@ use borrow.Author.Tests.{eq-eqb, ne-eqb}
 use lib.Dec.{eqb}
 use lib.ListN.{getD}
 use borrow.Author.Needs.{needs}
-use Rattle.test_support.specs.Comparisons.{firstDifference}
+use Rattle.test_support.specs.Definitions.Comparisons.{firstDifference}
 use Rattle.test_support.proofs.Searching.{Passed, passed-none, passed-next, search-stops, search-ends}
 use Rattle.test_support.proofs.comparing.bytes.Statement.{statement}
 use Rattle.test_support.proofs.comparing.bytes.Tie as tie

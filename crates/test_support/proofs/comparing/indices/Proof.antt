@@ -7,8 +7,8 @@ use lib.ListN.{getD}
 use mir.Syntax.{w16}
 use mir.Val.{ofZ}
 use borrow.Author.Needs.{needs}
-use Rattle.test_support.specs.Numbers.{signed16}
-use Rattle.test_support.specs.Comparisons.{same, firstOtherIndex}
+use Rattle.test_support.specs.Definitions.Numbers.{signed16}
+use Rattle.test_support.specs.Definitions.Comparisons.{same, firstOtherIndex}
 use Rattle.test_support.proofs.Searching.{Passed, passed-none, passed-next, search-stops, search-ends}
 use Rattle.test_support.proofs.comparing.indices.Statement.{statement}
 use Rattle.test_support.proofs.comparing.indices.Tie as tie

@@ -5,7 +5,7 @@ use borrow.Author.Tests.{eq-eqb, ne-eqb}
 use lib.Dec.{eqb}
 use lib.ListN.{length, getD}
 use borrow.Author.Needs.{needs}
-use Rattle.test_support.specs.Comparisons.{firstDifference}
+use Rattle.test_support.specs.Definitions.Comparisons.{firstDifference}
 use Rattle.test_support.proofs.Searching.{Passed, passed-none, passed-next, search-stops, search-ends}
 use Rattle.test_support.proofs.comparing.slots.Statement.{statement}
 use Rattle.test_support.proofs.comparing.slots.Tie as tie

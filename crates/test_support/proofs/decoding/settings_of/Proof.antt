@@ -1,7 +1,7 @@
 -- `test_support::decoding::settings_of` meets its contract: number by number. Assumes nothing.
 use borrow.Author.Needs.{needs}
-use Rattle.mathematics.specs.Tables.{tabulate}
-use Rattle.test_support.specs.Numbers.{settings}
+use Rattle.mathematics.specs.Definitions.Tables.{tabulate}
+use Rattle.test_support.specs.Definitions.Numbers.{settings}
 use Rattle.test_support.proofs.decoding.settings_of.Statement.{statement}
 use Rattle.test_support.proofs.decoding.settings_of.Tie as tie
 

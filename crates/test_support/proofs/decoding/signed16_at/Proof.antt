@@ -5,7 +5,7 @@ use mir.Syntax.{w16}
 use mir.Val.{toZ}
 use borrow.Author.Needs.{needs}
 use native.Mathlib.Omega.{arith}
-use Rattle.test_support.specs.Numbers.{signed16}
+use Rattle.test_support.specs.Definitions.Numbers.{signed16}
 use Rattle.test_support.proofs.decoding.signed16_at.Statement.{statement}
 use Rattle.test_support.proofs.decoding.signed16_at.Tie as tie
 

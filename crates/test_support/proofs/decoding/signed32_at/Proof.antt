@@ -5,7 +5,7 @@ use mir.Syntax.{w32}
 use mir.Val.{toZ}
 use borrow.Author.Needs.{needs}
 use native.Mathlib.Omega.{arith}
-use Rattle.test_support.specs.Numbers.{signed32}
+use Rattle.test_support.specs.Definitions.Numbers.{signed32}
 use Rattle.test_support.proofs.decoding.signed32_at.Statement.{statement}
 use Rattle.test_support.proofs.decoding.signed32_at.Tie as tie
 

@@ -3,7 +3,7 @@ use mathlib.Core.Path.{sym}
 use denote.Ref.{now}
 use borrow.Author.Needs.{needs}
 use native.Mathlib.Omega.{arith}
-use Rattle.test_support.specs.Numbers.{unsigned16}
+use Rattle.test_support.specs.Definitions.Numbers.{unsigned16}
 use Rattle.test_support.proofs.Numbers.{past-end}
 use Rattle.test_support.proofs.decoding.unsigned16_at.Statement.{statement}
 use Rattle.test_support.proofs.decoding.unsigned16_at.Tie as tie

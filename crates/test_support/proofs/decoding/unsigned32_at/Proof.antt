@@ -3,7 +3,7 @@ use denote.Ref.{now}
 use Prim.Native.Nat.{_+_}
 use borrow.Author.Needs.{needs}
 use native.Mathlib.Omega.{arith}
-use Rattle.test_support.specs.Numbers.{unsigned32}
+use Rattle.test_support.specs.Definitions.Numbers.{unsigned32}
 use Rattle.test_support.proofs.Numbers.{past-end}
 use Rattle.test_support.proofs.decoding.unsigned32_at.Statement.{statement}
 use Rattle.test_support.proofs.decoding.unsigned32_at.Tie as tie

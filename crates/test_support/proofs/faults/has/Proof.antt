@@ -4,7 +4,7 @@ use mathlib.Core.Logic.{⊎-elim}
 use Prim.Native.Nat.{_-_}
 use lib.ListN.{length, drop}
 use borrow.Author.Needs.{needs}
-use Rattle.test_support.specs.FaultSets.{chosen, member}
+use Rattle.test_support.specs.Definitions.FaultSets.{chosen, member}
 use Rattle.test_support.proofs.Choosing.{chosen-past, chosen-in, chosen-out, member-here, member-later}
 use Rattle.test_support.proofs.faults.has.Statement.{statement}
 use Rattle.test_support.proofs.faults.has.Tie as tie

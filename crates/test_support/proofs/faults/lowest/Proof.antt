@@ -3,7 +3,7 @@ use mathlib.Core.Path.{_≡_, refl, sym, ap, _∙_}
 use Prim.Native.Nat.{_-_}
 use lib.ListN.{length, drop}
 use borrow.Author.Needs.{needs}
-use Rattle.test_support.specs.FaultSets.{chosen, first}
+use Rattle.test_support.specs.Definitions.FaultSets.{chosen, first}
 use Rattle.test_support.proofs.Choosing.{chosen-past, chosen-in, chosen-out}
 use Rattle.test_support.proofs.faults.lowest.Statement.{statement}
 use Rattle.test_support.proofs.faults.lowest.Tie as tie

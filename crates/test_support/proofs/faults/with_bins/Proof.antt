@@ -3,7 +3,7 @@ use mathlib.Core.Path.{sym, ap, _∙_}
 use Prim.Native.Nat.{ℕ, min}
 use borrow.Author.Needs.{needs}
 use borrow.Author.Tests.{not-true, not-false}
-use Rattle.test_support.specs.FaultySettings.{withBins}
+use Rattle.test_support.specs.Definitions.FaultySettings.{withBins}
 use Rattle.test_support.proofs.Variants.{last-variant}
 use Rattle.test_support.proofs.faults.with_bins.Statement.{statement}
 use Rattle.test_support.proofs.faults.with_bins.Tie as tie

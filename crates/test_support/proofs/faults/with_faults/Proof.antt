@@ -1,6 +1,6 @@
 -- `test_support::faults::with_faults` meets its contract: one fault after the other. Assumes nothing.
 use borrow.Author.Needs.{needs}
-use Rattle.test_support.specs.FaultySettings.{withFaults}
+use Rattle.test_support.specs.Definitions.FaultySettings.{withFaults}
 use Rattle.test_support.proofs.faults.with_faults.Statement.{statement}
 use Rattle.test_support.proofs.faults.with_faults.Tie as tie
 

@@ -1,7 +1,7 @@
 -- `test_support::faults::with_kernel` meets its contract, variant by variant. Assumes nothing.
 use mathlib.Core.Path.{sym, ap}
 use borrow.Author.Tests.{not-true, not-false}
-use Rattle.test_support.specs.FaultySettings.{withKernel}
+use Rattle.test_support.specs.Definitions.FaultySettings.{withKernel}
 use Rattle.test_support.proofs.Variants.{last-variant}
 use Rattle.test_support.proofs.faults.with_kernel.Statement.{statement}
 use Rattle.test_support.proofs.faults.with_kernel.Tie as tie

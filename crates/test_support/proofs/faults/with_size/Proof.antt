@@ -2,7 +2,7 @@
 use mathlib.Core.Path.{sym, ap}
 use borrow.Author.Needs.{needs}
 use borrow.Author.Tests.{not-true, not-false}
-use Rattle.test_support.specs.FaultySettings.{withSize}
+use Rattle.test_support.specs.Definitions.FaultySettings.{withSize}
 use Rattle.test_support.proofs.Variants.{last-variant}
 use Rattle.test_support.proofs.faults.with_size.Statement.{statement}
 use Rattle.test_support.proofs.faults.with_size.Tie as tie

@@ -1,7 +1,7 @@
 -- `test_support::fillers::byte_filler` meets its contract. Assumes nothing.
 use mathlib.Core.Path.{refl}
 use borrow.Author.Needs.{needs}
-use Rattle.test_support.specs.Fillers.{byteFiller}
+use Rattle.test_support.specs.Definitions.Fillers.{byteFiller}
 use Rattle.test_support.proofs.fillers.byte_filler.Statement.{statement}
 use Rattle.test_support.proofs.fillers.byte_filler.Tie as tie
 

@@ -4,7 +4,7 @@ use lib.ListN.{length}
 use borrow.Author.Needs.{needs}
 use native.Mathlib.Omega.{arith}
 use Rattle.mathematics.proofs.Filling.{Filling, filling-start, filling-next}
-use Rattle.test_support.specs.Fillers.{byteFiller}
+use Rattle.test_support.specs.Definitions.Fillers.{byteFiller}
 use Rattle.test_support.proofs.Filled.{filled}
 use Rattle.test_support.proofs.fillers.fill_bytes.Statement.{statement}
 use Rattle.test_support.proofs.fillers.fill_bytes.Tie as tie

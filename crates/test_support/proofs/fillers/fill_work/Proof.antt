@@ -7,7 +7,7 @@ use mir.Facts.{toZ-ofZ}
 use borrow.Author.Needs.{needs}
 use native.Mathlib.Omega.{arith}
 use Rattle.mathematics.proofs.Filling.{Filling, filling-start, filling-next}
-use Rattle.test_support.specs.Fillers.{workFiller}
+use Rattle.test_support.specs.Definitions.Fillers.{workFiller}
 use Rattle.test_support.proofs.Filled.{filled}
 use Rattle.test_support.proofs.fillers.fill_work.Statement.{statement}
 use Rattle.test_support.proofs.fillers.fill_work.Tie as tie

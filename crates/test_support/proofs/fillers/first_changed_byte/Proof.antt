@@ -7,8 +7,8 @@ use lib.Dec.{eqb, ltb}
 use lib.ListN.{length, getD}
 use borrow.Author.Needs.{needs}
 use native.Mathlib.Omega.{arith}
-use Rattle.test_support.specs.Fillers.{byteFiller}
-use Rattle.test_support.specs.Comparisons.{firstChangedByte}
+use Rattle.test_support.specs.Definitions.Fillers.{byteFiller}
+use Rattle.test_support.specs.Definitions.Comparisons.{firstChangedByte}
 use Rattle.test_support.proofs.Searching.{Passed, passed-before, from-on, passed-next, search-stops, search-ends}
 use Rattle.test_support.proofs.fillers.first_changed_byte.Statement.{statement}
 use Rattle.test_support.proofs.fillers.first_changed_byte.Tie as tie

@@ -7,8 +7,8 @@ use lib.ListN.{length, getD}
 use mir.Syntax.{w16}
 use mir.Val.{ofZ}
 use borrow.Author.Needs.{needs}
-use Rattle.test_support.specs.Fillers.{indexFiller}
-use Rattle.test_support.specs.Comparisons.{same, firstChangedIndex}
+use Rattle.test_support.specs.Definitions.Fillers.{indexFiller}
+use Rattle.test_support.specs.Definitions.Comparisons.{same, firstChangedIndex}
 use Rattle.test_support.proofs.Searching.{Passed, passed-none, passed-next, search-stops, search-ends}
 use Rattle.test_support.proofs.fillers.first_changed_index.Statement.{statement}
 use Rattle.test_support.proofs.fillers.first_changed_index.Tie as tie

@@ -10,8 +10,8 @@ use mir.Syntax.{w32}
 use mir.Val.{ofZ}
 use borrow.Author.Needs.{needs}
 use native.Mathlib.Omega.{arith}
-use Rattle.test_support.specs.Fillers.{workFiller}
-use Rattle.test_support.specs.Comparisons.{same, firstChangedWork}
+use Rattle.test_support.specs.Definitions.Fillers.{workFiller}
+use Rattle.test_support.specs.Definitions.Comparisons.{same, firstChangedWork}
 use Rattle.test_support.proofs.Searching.{Passed, passed-before, from-on, passed-next, search-stops, search-ends}
 use Rattle.test_support.proofs.fillers.first_changed_work.Statement.{statement}
 use Rattle.test_support.proofs.fillers.first_changed_work.Tie as tie

@@ -5,7 +5,7 @@ use mir.Facts.{toZ-pos, toZ-neg}
 use mir.Syntax.{w16}
 use borrow.Author.Needs.{needs}
 use native.Mathlib.Omega.{arith}
-use Rattle.test_support.specs.Fillers.{indexFiller}
+use Rattle.test_support.specs.Definitions.Fillers.{indexFiller}
 use Rattle.test_support.proofs.fillers.index_filler.Statement.{statement}
 use Rattle.test_support.proofs.fillers.index_filler.Tie as tie
 

@@ -5,7 +5,7 @@ use mir.Facts.{toZ-neg}
 use mir.Syntax.{w32}
 use borrow.Author.Needs.{needs}
 use native.Mathlib.Omega.{arith}
-use Rattle.test_support.specs.Fillers.{workFiller}
+use Rattle.test_support.specs.Definitions.Fillers.{workFiller}
 use Rattle.test_support.proofs.fillers.work_filler.Statement.{statement}
 use Rattle.test_support.proofs.fillers.work_filler.Tie as tie
 

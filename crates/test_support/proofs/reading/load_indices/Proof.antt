@@ -7,10 +7,10 @@ use denote.Ref.{now}
 use mir.Facts.{toZ-ofZ}
 use borrow.Author.Needs.{needs}
 use native.Mathlib.Omega.{arith}
-use Rattle.mathematics.specs.Splices.{splice}
-use Rattle.mathematics.specs.Tables.{tabulate}
+use Rattle.mathematics.specs.Inner.Splices.{splice}
+use Rattle.mathematics.specs.Definitions.Tables.{tabulate}
 use Rattle.mathematics.proofs.Filling.{Filling, filling-start, filling-next, filling-end}
-use Rattle.test_support.specs.Numbers.{signed16}
+use Rattle.test_support.specs.Definitions.Numbers.{signed16}
 use Rattle.test_support.proofs.reading.load_indices.Statement.{statement}
 use Rattle.test_support.proofs.reading.load_indices.Tie as tie
 

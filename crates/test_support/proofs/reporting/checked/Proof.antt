@@ -1,7 +1,7 @@
 -- `test_support::reporting::checked` meets its contract. Assumes nothing.
 use mathlib.Core.Path.{_∙_, ap}
 use borrow.Author.Needs.{needs}
-use Rattle.test_support.specs.Tallies.{counted}
+use Rattle.test_support.specs.Definitions.Tallies.{counted}
 use Rattle.test_support.proofs.reporting.checked.Statement.{statement}
 use Rattle.test_support.proofs.reporting.checked.Tie as tie
 

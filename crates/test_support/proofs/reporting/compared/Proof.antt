@@ -2,7 +2,7 @@
 use mathlib.Core.Path.{_∙_}
 use borrow.Author.Tests.{lt-ltb, le-ltb}
 use borrow.Author.Needs.{needs}
-use Rattle.test_support.specs.Tallies.{differsBelow}
+use Rattle.test_support.specs.Definitions.Tallies.{differsBelow}
 use Rattle.test_support.proofs.reporting.compared.Statement.{statement}
 use Rattle.test_support.proofs.reporting.compared.Tie as tie
 

@@ -1,7 +1,7 @@
 -- `test_support::reporting::counted` meets its contract. Assumes nothing.
 use borrow.Author.Tests.{eq-eqb, ne-eqb}
 use borrow.Author.Needs.{needs}
-use Rattle.test_support.specs.Tallies.{counted}
+use Rattle.test_support.specs.Definitions.Tallies.{counted}
 use Rattle.test_support.proofs.reporting.counted.Statement.{statement}
 use Rattle.test_support.proofs.reporting.counted.Tie as tie
 

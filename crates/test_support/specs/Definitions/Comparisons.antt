@@ -7,9 +7,9 @@ use lib.IntN.{ℤ, pos}
 use lib.ListN.{length, getD}
 use mir.Syntax.{Width, w16, w32}
 use mir.Val.{ofZ}
-use Rattle.test_support.specs.Searches.{firstFailure}
-use Rattle.test_support.specs.Numbers.{signed16}
-use Rattle.test_support.specs.Fillers.{byteFiller, indexFiller, workFiller}
+use Rattle.test_support.specs.Definitions.Searches.{firstFailure}
+use Rattle.test_support.specs.Definitions.Numbers.{signed16}
+use Rattle.test_support.specs.Definitions.Fillers.{byteFiller, indexFiller, workFiller}
 
 -- whether two whole numbers have the same bits
 abbrev pub same : Width → ℤ → ℤ → Bool

@@ -4,7 +4,7 @@ use mathlib.Core.List.{List, [], _∷_}
 use Prim.Native.Nat.{ℕ, _+_, min}
 use lib.ListN.{getD, set}
 use Rattle.pyramid.specs.declared.Settings.{Settings}
-use Rattle.test_support.specs.FaultSets.{chosen, member}
+use Rattle.test_support.specs.Definitions.FaultSets.{chosen, member}
 
 -- one more, within 16 bits
 abbrev pub more : ℕ → ℕ

@@ -5,7 +5,7 @@ use lib.IntN.{ℤ}
 use lib.ListN.{getD}
 use mir.Syntax.{w16, w32}
 use mir.Val.{toZ}
-use Rattle.mathematics.specs.Tables.{tabulate}
+use Rattle.mathematics.specs.Definitions.Tables.{tabulate}
 use Rattle.pyramid.specs.declared.Settings.{Settings}
 
 module _ (bytes : List ℕ) where
