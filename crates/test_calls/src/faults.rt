@@ -1,0 +1,136 @@
+// Settings with one fault each, at both ends of every range, in every function that takes settings.
+use crate::base;
+use crate::base::BASE;
+use crate::calling;
+use crate::calling::CODING;
+use crate::calling::Lengths;
+use crate::calling::NO_PUT;
+use crate::calling::REBUILDING;
+use crate::shapes;
+use pyramid::Settings;
+use test_support::comparing;
+use test_support::reporting;
+use test_support::reporting::Tally;
+use test_support::reporting::checked;
+
+// The settings by number; slot l of the bins is SLOTS + l.
+const COLUMNS: u16 = 0;
+
+const ROWS: u16 = 1;
+
+const DEPTH: u16 = 2;
+
+const KERNEL: u16 = 3;
+
+const SLOTS: u16 = 4;
+
+// The base settings with one set anew; with another depth every slot holds 1.
+fn with_setting(setting: u16, value: u16) -> Settings {
+    let mut s = BASE;
+    match setting {
+        COLUMNS => {
+            s.columns = value;
+        }
+        ROWS => {
+            s.rows = value;
+        }
+        DEPTH => {
+            s.depth = value;
+            s.bins = [1; 7];
+        }
+        KERNEL => {
+            s.kernel = value;
+        }
+        _ => {
+            let slot = (setting - SLOTS) as usize;
+            if slot < 7 {
+                s.bins[slot] = value;
+            }
+        }
+    }
+    s
+}
+
+// T is answered with 0 where the settings are refused.
+fn nodes_give(s: Settings, answer: u16) -> bool {
+    let t = pyramid::total_nodes(s);
+    let mut nodes = base::NODES;
+    if answer != 0 {
+        nodes = 0;
+    }
+    t.refusal == answer && t.nodes as usize == nodes
+}
+
+// The bounds are answered with seven zeros where the settings are refused.
+fn bounds_give(s: Settings, answer: u16) -> bool {
+    let b = pyramid::level_bounds(s);
+    let slots = b.levels;
+    b.refusal == answer && (answer == 0 || comparing::slots(slots, [0; 7]) == 7)
+}
+
+// The answer of all functions, with buffers of the lengths of the settings without the fault.
+pub(crate) fn answered(t: Tally, s: Settings, answer: u16) -> Tally {
+    let n = Lengths {
+        picture: base::PIXELS,
+        levels: base::NODES,
+        work: base::NODES,
+    };
+    let mut u = checked(t, nodes_give(s, answer));
+    u = checked(u, bounds_give(s, answer));
+    u = checked(u, calling::gives(CODING, s, n, NO_PUT, answer));
+    u = checked(u, calling::gives(REBUILDING, s, n, NO_PUT, answer));
+    shapes::answered(u, s, answer)
+}
+
+// The answer to a setting in place of the lawful one: 9 by 5, N = 2. No other C, R or N that is tried is lawful.
+fn answer_to(setting: u16, value: u16) -> u16 {
+    if setting < KERNEL {
+        return 1;
+    }
+    if setting == KERNEL {
+        if 3 <= value && value <= 6 {
+            return 0;
+        }
+        return 2;
+    }
+    let is_bin = 1 <= value && value <= 255;
+    if setting <= SLOTS + 2 && is_bin {
+        return 0;
+    }
+    if SLOTS + 2 < setting && value == 0 {
+        return 0;
+    }
+    3
+}
+
+// A setting with each of some values.
+fn each(t: Tally, setting: u16, values: &[u16]) -> Tally {
+    let mut u = t;
+    let mut i = 0;
+    while i < values.len() {
+        let value = values[i];
+        u = answered(u, with_setting(setting, value), answer_to(setting, value));
+        i += 1;
+    }
+    u
+}
+
+// Each slot of the bins with each of some values.
+fn each_slot(t: Tally) -> Tally {
+    let mut u = t;
+    let mut setting = SLOTS;
+    while setting < SLOTS + 7 {
+        u = each(u, setting, &[0, 1, 255, 256, 65535]);
+        setting += 1;
+    }
+    u
+}
+
+pub(crate) fn all() -> Tally {
+    let mut u = reporting::empty();
+    u = each(u, COLUMNS, &[0, 1, 130, 133, 257, 65535, 8, 10, 7, 11]);
+    u = each(u, ROWS, &[0, 1, 130, 133, 257, 65535, 4, 6, 7, 3]);
+    u = each(u, DEPTH, &[3, 6, 7, 8, 16, 65535]);
+    u = each(u, KERNEL, &[0, 1, 2, 3, 4, 5, 6, 7, 8, 65535]);
+    each_slot(u)
+}
