@@ -21,7 +21,7 @@ use Rattle.bale.specs.declared.Note.{Note}
 use Rattle.bale.specs.Definitions.Readings.{percentageOk, faultOk, codeWhere, codeOf, readingOk, noteOk}
 use Rattle.bale.specs.Definitions.Files.{fileLength}
 use Rattle.bale.specs.Definitions.Calls.{sizeAnswer, writeRefusal, writeFile}
-use Rattle.bale.specs.Theorems.Conditions.{ReadingRule, WriterConditions}
+use Rattle.bale.specs.Checks.Conditions.{ReadingRule, WriterConditions}
 use Rattle.bale.proofs.Sections.{eqb-of}
 
 -- ---- tests that decide

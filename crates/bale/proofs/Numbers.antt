@@ -4,7 +4,7 @@ use mathlib.Core.List.{[], _∷_}
 use Prim.Native.Nat.{ℕ, zero, suc}
 use lib.ListN.{length}
 use Rattle.pyramid.specs.Definitions.Refusals.{unless}
-use Rattle.pyramid.specs.Theorems.Numbers.{Answers}
+use Rattle.pyramid.specs.Checks.Numbers.{Answers}
 use Rattle.pyramid.proofs.Refusals.{unless-elim}
 use Rattle.pyramid.proofs.Rules.{answered}
 use Rattle.pyramid.proofs.Conditions.{settingsTests, settings-look}
@@ -12,7 +12,7 @@ use Rattle.bale.specs.declared.Reading.{Reading}
 use Rattle.bale.specs.declared.Reading.the-variants.{NotFitted, Percentage, Fault}
 use Rattle.bale.specs.Definitions.Readings.{codeWhere, codeOf, probeWhere, decode}
 use Rattle.bale.specs.Definitions.Calls.{sizeAnswer, writeFile, baleOf, checkFile, readFile}
-use Rattle.bale.specs.Theorems.Numbers.{BaleNumbers}
+use Rattle.bale.specs.Checks.Numbers.{BaleNumbers}
 use Rattle.bale.proofs.Conditions.{writingTests, writing-looks}
 use Rattle.bale.proofs.Totality.{reading-is-total}
 

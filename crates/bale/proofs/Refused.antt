@@ -3,13 +3,13 @@ use mathlib.Core.Path.{_≡_}
 use mathlib.Core.Bool.{Bool}
 use mathlib.Core.List.{List}
 use Prim.Native.Nat.{ℕ, zero, suc}
-use Rattle.pyramid.specs.Theorems.Refused.{Refused}
+use Rattle.pyramid.specs.Checks.Refused.{Refused}
 use Rattle.pyramid.proofs.Refusals.{leaves-kept}
 use Rattle.bale.specs.declared.Reading.{Reading}
 use Rattle.bale.specs.declared.Reading.the-variants.{NotFitted, Percentage, Fault}
 use Rattle.bale.specs.Definitions.Readings.{codeWhere, codeOf, probeWhere, decode}
 use Rattle.bale.specs.Definitions.Calls.{sizeAnswer, writeFile, noSettings, noNote, baleOf, checkFile, readFile}
-use Rattle.bale.specs.Theorems.Refused.{HoldsNothing, RefusedFilesHoldNothing}
+use Rattle.bale.specs.Checks.Refused.{HoldsNothing, RefusedFilesHoldNothing}
 
 code-kept : (ok : Bool) (kind number : ℕ) → Refused (codeWhere ok kind number .refusal) ((codeWhere ok kind number .kind ≡ 0) × (codeWhere ok kind number .number ≡ 0))
 unfolding codeWhere

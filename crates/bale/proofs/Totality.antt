@@ -11,7 +11,7 @@ use lib.ListN.{getD}
 use Rattle.pyramid.specs.declared.Settings.{Settings}
 use Rattle.pyramid.specs.Definitions.Sizes.{nodesAt, total}
 use Rattle.pyramid.specs.Definitions.Refusals.{shapeRefusal}
-use Rattle.pyramid.specs.Theorems.Numbers.{Answers}
+use Rattle.pyramid.specs.Checks.Numbers.{Answers}
 use Rattle.pyramid.proofs.Refusals.{first-skip, first-between, answers-fails, unless-holds, unless-more, unless-elim, first-elim, last-elim, shape-elim}
 use Rattle.pyramid.proofs.Rules.{one-between}
 use Rattle.bale.specs.Definitions.Words.{u32At}
@@ -19,8 +19,8 @@ use Rattle.bale.specs.Definitions.Readings.{probeWhere, decode}
 use Rattle.bale.specs.Definitions.Sections.{sectionRefusal}
 use Rattle.bale.specs.Definitions.Reader.{settingsIn, probeAt, shapeSectionRefusal, binsSectionRefusal, readingsSectionRefusal, levelSectionRefusal, levelSectionsRefusal, bodyRefusal}
 use Rattle.bale.specs.Definitions.Calls.{readRefusal, checkRefusal}
-use Rattle.bale.specs.Theorems.Numbers.{checkNumbers, readNumbers}
-use Rattle.bale.specs.Theorems.Totality.{ReadingIsTotal}
+use Rattle.bale.specs.Checks.Numbers.{checkNumbers, readNumbers}
+use Rattle.bale.specs.Checks.Totality.{ReadingIsTotal}
 use Rattle.bale.proofs.Sections.{eqb-of}
 
 module _ (bytes : List ℕ) where

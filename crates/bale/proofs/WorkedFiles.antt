@@ -17,7 +17,7 @@ use Rattle.bale.specs.Definitions.Sections.{numbersSection, sectionRefus
 use Rattle.bale.specs.Definitions.Files.{readingsSection, levelSection, shapeSection, binsFrom, binsSection, levelSections, fileOf}
 use Rattle.bale.specs.Definitions.Reader.{slotIn, settingsIn, probeAt, noteIn, levelsFrom, levelsIn, shapeSectionRefusal, binsSectionRefusal, readingsSectionRefusal, levelSectionRefusal, levelSectionsRefusal, bodyRefusal}
 use Rattle.bale.specs.Definitions.Calls.{checkRefusal, readRefusal, baleOf, checkFile, readFile}
-use Rattle.bale.specs.Theorems.WorkedFiles.{WorkedFiles}
+use Rattle.bale.specs.Checks.WorkedFiles.{WorkedFiles}
 use Rattle.bale.proofs.Answers.{reading-is}
 
 -- a level buffer of as many places as the file wants

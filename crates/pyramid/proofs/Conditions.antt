@@ -12,7 +12,7 @@ use Rattle.pyramid.specs.Definitions.Sizes.{total}
 use Rattle.pyramid.specs.Definitions.Refusals.{first, shapeRefusal, settingsRefusal, buffersRefusal, valuesOk, levelsRefusal, codingRefusal, rebuildingRefusal}
 use Rattle.pyramid.specs.Definitions.Calls.{coding, rebuilding}
 use Rattle.pyramid.specs.Definitions.Answers.{boundsAnswer, nodesAnswer, shapeAnswer, levelSizeAnswer, deepestAnswer}
-use Rattle.pyramid.specs.Theorems.Conditions.{SideRule, SlotRule, SizeRule, valuesRule, Conditions}
+use Rattle.pyramid.specs.Checks.Conditions.{SideRule, SlotRule, SizeRule, valuesRule, Conditions}
 use Rattle.pyramid.proofs.Refusals.{first-last}
 use Rattle.pyramid.proofs.Rules.{Tested, refusals, first-join, both-say, given}
 use Rattle.pyramid.proofs.RuleTests.{le-decides, eq-decides, side-decides, size-decides, kernel-decides, bins-decide, values-decide, picture-decides}

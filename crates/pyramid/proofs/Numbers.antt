@@ -2,7 +2,7 @@
 use Rattle.pyramid.specs.declared.Settings.{Settings}
 use Rattle.pyramid.specs.Definitions.Calls.{coding, rebuilding}
 use Rattle.pyramid.specs.Definitions.Answers.{boundsAnswer, nodesAnswer, shapeAnswer, levelSizeAnswer}
-use Rattle.pyramid.specs.Theorems.Numbers.{PyramidNumbers}
+use Rattle.pyramid.specs.Checks.Numbers.{PyramidNumbers}
 use Rattle.pyramid.proofs.Rules.{answered}
 use Rattle.pyramid.proofs.Conditions.{shapeTests, settingsTests, levelsTests, codingTests, rebuildingTests, deepestTests, shape-looks, settings-look, levels-look, coding-looks, rebuilding-looks, deepest-looks}
 

@@ -1,5 +1,5 @@
 -- Averages and differences of a legal picture stay within ±4,096, and so do the values of their indices. Assumes nothing.
-use Rattle.pyramid.specs.Theorems.Ranges.{Ranges}
+use Rattle.pyramid.specs.Checks.Ranges.{Ranges}
 use Rattle.pyramid.proofs.Refusals.{accepted-coding}
 use Rattle.pyramid.proofs.Ranges.{coding-ranges}
 

@@ -2,7 +2,7 @@
 use Rattle.pyramid.specs.declared.Settings.{Settings}
 use Rattle.pyramid.specs.Definitions.Calls.{coding, rebuilding}
 use Rattle.pyramid.specs.Definitions.Answers.{boundsAnswer, nodesAnswer, shapeAnswer, levelSizeAnswer, deepestAnswer}
-use Rattle.pyramid.specs.Theorems.Refused.{RefusalsHoldNothing}
+use Rattle.pyramid.specs.Checks.Refused.{RefusalsHoldNothing}
 use Rattle.pyramid.proofs.Refusals.{leaves-kept}
 
 pub refusals-hold-nothing : (s : Settings) → RefusalsHoldNothing s

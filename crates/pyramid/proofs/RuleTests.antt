@@ -16,7 +16,7 @@ use Rattle.pyramid.specs.Definitions.Settings.{sideOk, depthOk, divides,
 use Rattle.pyramid.specs.Definitions.Rebuilding.{valueOf}
 use Rattle.pyramid.specs.Definitions.Buffers.{readLevels}
 use Rattle.pyramid.specs.Definitions.Refusals.{limit, valuesOk}
-use Rattle.pyramid.specs.Theorems.Conditions.{SideRule, SlotRule, SizeRule, valuesRule}
+use Rattle.pyramid.specs.Checks.Conditions.{SideRule, SlotRule, SizeRule, valuesRule}
 use Rattle.pyramid.proofs.Buffers.{stack-all, all-stack}
 use Rattle.pyramid.proofs.Rules.{both-say}
 

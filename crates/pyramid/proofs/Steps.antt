@@ -13,7 +13,7 @@ use Rattle.pyramid.specs.Definitions.Weights.{weight}
 use Rattle.pyramid.specs.Definitions.Edge.{reflect}
 use Rattle.pyramid.specs.Definitions.Steps.{reduce, evenWeight, halved, expand}
 use Rattle.pyramid.specs.Definitions.Bound.{hundredths, magnified}
-use Rattle.pyramid.specs.Theorems.Multiplier.{gain}
+use Rattle.pyramid.specs.Checks.Multiplier.{gain}
 use Rattle.pyramid.specs.Inner.Lawful.{Kernel}
 use Rattle.pyramid.proofs.Weights.{size, weight-sum, weight-size, even-sum, even-size, gain-square}
 use Rattle.pyramid.proofs.Windows.{window-constant, near-window}

@@ -18,7 +18,7 @@ use Rattle.pyramid.specs.Definitions.Weights.{weights, weight, WeightRul
 use Rattle.pyramid.specs.Definitions.Steps.{evenWeight}
 use Rattle.pyramid.specs.Inner.Rows.{Within}
 use Rattle.pyramid.specs.Definitions.Bound.{hundredths}
-use Rattle.pyramid.specs.Theorems.Multiplier.{gain, Multipliers}
+use Rattle.pyramid.specs.Checks.Multiplier.{gain, Multipliers}
 use Rattle.pyramid.specs.Inner.Lawful.{Kernel}
 
 -- a test of the four kernels holds at each lawful one

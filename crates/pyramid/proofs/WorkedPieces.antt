@@ -19,7 +19,7 @@ use Rattle.pyramid.specs.Definitions.Bound.{hundredths, magnified, toler
 use Rattle.pyramid.specs.Definitions.Buffers.{raster, pixels, stack, start, readLevels}
 use Rattle.pyramid.specs.Definitions.Refusals.{unless, first, shapeRefusal, settingsRefusal, buffersRefusal, valuesOk, codingRefusal, rebuildingRefusal}
 use Rattle.pyramid.specs.Definitions.Calls.{leaves, coding, rebuilding}
-use Rattle.pyramid.specs.Theorems.WorkedPieces.{WorkedPieces}
+use Rattle.pyramid.specs.Checks.WorkedPieces.{WorkedPieces}
 
 -- ---- piece A: averages, differences, indices, rebuilt values
 

@@ -3,7 +3,7 @@ use mathlib.Core.List.{List, [], _∷_}
 use Prim.Native.Nat.{ℕ}
 use lib.IntN.{ℤ}
 use Rattle.pyramid.specs.declared.Settings.{Settings}
-use Rattle.pyramid.specs.Theorems.Numbers.{Answers, settingsNumbers}
+use Rattle.pyramid.specs.Checks.Numbers.{Answers, settingsNumbers}
 use Rattle.bale.specs.declared.Reading.{Reading}
 use Rattle.bale.specs.declared.Note.{Note}
 use Rattle.bale.specs.Definitions.Readings.{codeOf, decode}

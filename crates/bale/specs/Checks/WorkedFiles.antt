@@ -8,7 +8,7 @@ use lib.IntN.{ℤ, pos, negsuc}
 use lib.ListN.{length}
 use Rattle.pyramid.specs.declared.Settings.{Settings}
 use Rattle.pyramid.specs.Definitions.Sizes.{total}
-use Rattle.pyramid.specs.Theorems.WorkedPieces.{pieceA, levelsA}
+use Rattle.pyramid.specs.Checks.WorkedPieces.{pieceA, levelsA}
 use Rattle.bale.specs.declared.Reading.the-variants.{NotFitted, Percentage, Fault}
 use Rattle.bale.specs.declared.Note.{Note}
 use Rattle.bale.specs.Definitions.Files.{fileOf}

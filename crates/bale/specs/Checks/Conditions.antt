@@ -7,7 +7,7 @@ use lib.IntN.{ℤ}
 use lib.ListN.{length}
 use Rattle.pyramid.specs.declared.Settings.{Settings}
 use Rattle.pyramid.specs.Definitions.Sizes.{total}
-use Rattle.pyramid.specs.Theorems.Conditions.{Rule, Given, settingsRules, levelsRule, valuesRule}
+use Rattle.pyramid.specs.Checks.Conditions.{Rule, Given, settingsRules, levelsRule, valuesRule}
 use Rattle.bale.specs.declared.Reading.{Reading}
 use Rattle.bale.specs.declared.Reading.the-variants.{NotFitted, Percentage, Fault}
 use Rattle.bale.specs.declared.Note.{Note}

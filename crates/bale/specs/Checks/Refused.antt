@@ -6,7 +6,7 @@ use Prim.Native.Nat.{ℕ}
 use lib.IntN.{ℤ}
 use lib.ListN.{replicate}
 use Rattle.pyramid.specs.declared.Settings.{Settings}
-use Rattle.pyramid.specs.Theorems.Refused.{Refused}
+use Rattle.pyramid.specs.Checks.Refused.{Refused}
 use Rattle.bale.specs.declared.Reading.{Reading}
 use Rattle.bale.specs.declared.Reading.the-variants.{NotFitted}
 use Rattle.bale.specs.declared.Note.{Note}

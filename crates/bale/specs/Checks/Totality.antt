@@ -5,10 +5,10 @@ use mathlib.Core.Logic.{_↔_, _≢_, _⊎_}
 use mathlib.Core.List.{List}
 use Prim.Native.Nat.{ℕ}
 use Rattle.pyramid.specs.Definitions.Sizes.{total}
-use Rattle.pyramid.specs.Theorems.Numbers.{Answers}
+use Rattle.pyramid.specs.Checks.Numbers.{Answers}
 use Rattle.bale.specs.Definitions.Reader.{settingsIn, shapeSectionRefusal}
 use Rattle.bale.specs.Definitions.Calls.{readRefusal, checkRefusal}
-use Rattle.bale.specs.Theorems.Numbers.{checkNumbers, readNumbers}
+use Rattle.bale.specs.Checks.Numbers.{checkNumbers, readNumbers}
 
 pub record ReadingIsTotal (bytes : List ℕ) : Type 0 where
   pub checked : Answers checkNumbers (checkRefusal bytes)

@@ -1,0 +1,6 @@
+pub mod Ranges
+pub mod WorkedPieces
+pub mod Multiplier
+pub mod Numbers
+pub mod Conditions
+pub mod Refused
