@@ -2,10 +2,11 @@
 """Shows what must be believed, and that it stands apart: python3 tests/believed.py
 
 In each crate of the product, specs/Definitions holds what public promises and theorems are made of, specs/Theorems the
-statements of theorems, and specs/Inner the words of contracts that only the crate itself can meet. Checked are:
-that every file of specs/ is in one of these; that none of the first two uses a word of Inner or a law of proofs/; that
-no promise of a public function does; that every definition is reached from a promise or a theorem; that every theorem
-is proved; and that the list in docs/CLAIMS.md has every file with its number of lines, README.md and docs/REGULATOR.md the same
+demands' statements, specs/Checks statements that pin the definitions from a second side, on which nothing rests, and
+specs/Inner the words of contracts that only the crate itself can meet. What must be believed are the first two.
+Checked are: that every file of specs/ is in one of these; that Definitions and Theorems use nothing of the others, and
+Checks nothing of Inner and no law of proofs/; that no promise of a public function does; that every definition is
+reached from a promise or a theorem; that every statement is proved; and that the list in docs/CLAIMS.md has every file with its number of lines, README.md and docs/REGULATOR.md the same
 files in the same order, and all three their sum. Lines of definitions are counted: no imports, comments or blank lines.
 Ends with one line 'N passed, M failed'; the exit status is 1 if M is not 0.
 """
@@ -15,6 +16,7 @@ import sys
 
 ROOT = pathlib.Path(__file__).resolve().parent.parent
 BELIEVED = ('Definitions', 'Theorems')
+STATED = ('Theorems', 'Checks')
 USE = re.compile(r'(?m)^\s*(?:ghost )?use (Rattle·(\w+)(?:·specs)?\.((?:specs|proofs)(?:\.[\w-]+)*))(?:\.\{([^}]*)\})?')
 counts = {'passed': 0, 'failed': 0}
 
@@ -59,9 +61,9 @@ def file_of(crate, parts):
     return ROOT / 'crates' / crate / 'specs' / ('/'.join(parts[1:]) + '.antt')
 
 
-def apart(parts):
-    """A word of an inner contract, or a law."""
-    return parts[0] == 'proofs' or parts[1] == 'Inner'
+def apart(parts, folders=('Inner', 'Checks')):
+    """A law, or a word of a folder that promises and theorems do without."""
+    return parts[0] == 'proofs' or parts[1] in folders
 
 
 def promises(crate):
@@ -111,7 +113,7 @@ def check_theorems(crates):
     """Every statement that no other statement of its file is made of is what some law of proofs/ says."""
     for crate in crates:
         laws = '\n'.join(text_of(p) for p in (ROOT / 'crates' / crate / 'proofs').rglob('*.antt'))
-        for path in (p for p in spec_files(crate) if room(p) == 'Theorems'):
+        for path in (p for p in spec_files(crate) if room(p) in STATED):
             text = re.sub(r'--[^\n]*', '', text_of(path))
             names = re.findall(r'(?m)^(?:abbrev |unfoldable )?pub (?:record )?([A-Z]\w*)', text)
             for name in names:
@@ -161,10 +163,11 @@ def main():
     crates = product()
     files = [path for crate in crates for path in spec_files(crate)]
     for path in files:
-        check(room(path) in BELIEVED + ('Inner',), '%s is in no folder that says what it is' % path.relative_to(ROOT))
+        check(room(path) in BELIEVED + ('Checks', 'Inner'), '%s is in no folder that says what it is' % path.relative_to(ROOT))
     believed = [path for path in files if room(path) in BELIEVED]
-    for path in believed:
-        words = [n for _, parts, names in imports(text_of(path)) if apart(parts) for n in names]
+    for path in (path for path in files if room(path) != 'Inner'):
+        folders = ('Inner',) if room(path) == 'Checks' else ('Inner', 'Checks')
+        words = [n for _, parts, names in imports(text_of(path)) if apart(parts, folders) for n in names]
         check(not words, '%s uses words that stand apart: %s' % (path.relative_to(ROOT), ', '.join(words)))
     reached = closure(check_promises(crates) + [path for path in believed if room(path) == 'Theorems'])
     for path in believed:
