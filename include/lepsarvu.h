@@ -60,7 +60,7 @@ uint16_t lepsarvu_rebuilding(uint16_t columns, uint16_t rows, uint16_t depth, ui
                              int32_t *work, size_t work_length);
 
 /* Leaves in bounds, slot l for level l, how far a rebuilt value of a level can lie from its average; 0 in the slots
- * above the depth. Slot 0 is how many grey levels a shown pixel can differ from what the camera saw.
+ * above the depth. Slot 0 is how many grey levels a shown pixel can differ from the picture that was coded.
  * Refused: 1, 2, 3. */
 uint16_t lepsarvu_level_bounds(uint16_t columns, uint16_t rows, uint16_t depth, uint16_t kernel,
                                const uint16_t bins[7], uint16_t bounds[7]);

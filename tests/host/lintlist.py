@@ -17,6 +17,10 @@ from tally import Tally  # noqa: E402
 
 SECONDS = 20
 
+# By hand from document 01: three columns and two rows, so that no two numbers of its shape are the same.
+WIDE = Path(__file__).resolve().parent.parent.parent / "examples" / "three-by-two.bale"
+LISTING_WIDE = "picture 3 2 depth 0 kernel 5\nmoisture fault 9 42C80000\nlevel 0 3 2 bin 7 within 3\n"
+
 
 def files(numbers: Seeded) -> Iterator[bytes]:
     """Piece A's file and its faults, whole and damaged files of all sizes, and random bytes."""
@@ -37,6 +41,13 @@ def check_listing(tally: Tally, program: str, data: bytes) -> None:
     done = subprocess.run([program], input=data, capture_output=True, timeout=SECONDS, check=False)
     name = f"file of {len(data)} bytes, {data[:64].hex()}"
     tally.equal(name, (done.stdout.decode(), done.stderr), (listing(data), b""))
+
+
+def check_wide(tally: Tally, program: str) -> None:
+    """A file with more columns than rows; the reference lists it too."""
+    data = WIDE.read_bytes()
+    check_listing(tally, program, data)
+    tally.equal("three by two", listing(data), LISTING_WIDE)
 
 
 def check_pieces(tally: Tally, program: str) -> None:
@@ -62,6 +73,7 @@ def main(program: str) -> int:
     tally = Tally()
     for data in files(Seeded(SEED + 300)):
         check_listing(tally, program, data)
+    check_wide(tally, program)
     check_pieces(tally, program)
     check_no_input(tally, program, "<&-")
     check_no_input(tally, program, "</")
