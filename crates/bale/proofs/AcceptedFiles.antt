@@ -15,10 +15,9 @@ use Rattle.pyramid.specs.Definitions.Refusals.{settingsRefusal, valuesOk}
 use Rattle.pyramid.proofs.Refusals.{first-nil, first-none, first-pass, unless-holds, unless-none, accepted-shape, accepted-settings}
 use Rattle.pyramid.proofs.Sizes.{nodesTo-zero, nodesTo-suc, total-is}
 use Rattle.bale.specs.declared.Note.{Note}
-use Rattle.bale.specs.Definitions.Words.{u16At}
 use Rattle.bale.specs.Definitions.Readings.{noteOk}
 use Rattle.bale.specs.Definitions.Files.{fileLength}
-use Rattle.bale.specs.Definitions.Reader.{levelsPlace, settingsIn, levelsFrom, levelsIn, shapeSectionRefusal, levelSectionsRefusal, bodyRefusal}
+use Rattle.bale.specs.Definitions.Reader.{depthIn, levelsPlace, settingsIn, levelsFrom, levelsIn, shapeSectionRefusal, levelSectionsRefusal, bodyRefusal}
 use Rattle.bale.specs.Definitions.Calls.{writeRefusal, readRefusal}
 use Rattle.bale.proofs.Sections.{eqb-of}
 use Rattle.bale.proofs.LevelTrips.{length-from}
@@ -89,7 +88,7 @@ module _ (bytes : List ℕ) where
       record {
         shaped = accepted-shape (settingsIn bytes) (first-none _ _ e₁ .0);
         places-are = eqb→eq _ _ (unless-none (eqb places (total (settingsIn bytes))) 5 six);
-        whole = file-end (settingsIn bytes) (u16At bytes 6) (levelsPlace (u16At bytes 6)) (first-none _ _ e₉ .0);
+        whole = file-end (settingsIn bytes) (depthIn bytes) (levelsPlace (depthIn bytes)) (first-none _ _ e₉ .0);
       }
 
   -- what fills the level buffer is all that it then holds
@@ -98,7 +97,7 @@ module _ (bytes : List ℕ) where
   unfolding settingsIn
   filled s levels e accepted q =
       let n : length (levelsIn bytes) ≡ length levels =
-      length-from (settingsIn bytes) bytes (u16At bytes 6) (levelsPlace (u16At bytes 6)) ∙ sym (total-is (settingsIn bytes))
+      length-from (settingsIn bytes) bytes (depthIn bytes) (levelsPlace (depthIn bytes)) ∙ sym (total-is (settingsIn bytes))
       ∙ sym (accepted-file (length levels) accepted .places-are)
       in
       q ∙ ap (λ (x : Settings). splice 0 (levelsFrom bytes x (x .depth) (levelsPlace (x .depth))) levels) e ∙ splice-whole (levelsIn bytes) levels n

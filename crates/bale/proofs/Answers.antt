@@ -9,9 +9,8 @@ use Rattle.pyramid.proofs.Refusals.{leaves-new, leaves-kept}
 use Rattle.bale.specs.declared.Note.{Note}
 use Rattle.bale.specs.declared.FileSize.{FileSize}
 use Rattle.bale.specs.declared.Bale.{Bale}
-use Rattle.bale.specs.Definitions.Words.{u16At}
 use Rattle.bale.specs.Definitions.Files.{fileOf, fileLength}
-use Rattle.bale.specs.Definitions.Reader.{settingsIn, noteIn, levelsIn}
+use Rattle.bale.specs.Definitions.Reader.{depthIn, settingsIn, noteIn, levelsIn}
 use Rattle.bale.specs.Definitions.Calls.{sizeAnswer, writeRefusal, writeFile, noSettings, noNote, baleOf, readRefusal, readFile}
 use Rattle.bale.proofs.AcceptedFiles.{accepted-writing}
 use Rattle.bale.proofs.Writings.{size-is}
@@ -42,19 +41,19 @@ module _ (s : Settings) (note : Note) (levels : List ℤ) (file : List ℕ) {ref
 -- ---- the reader
 
 module _ (bytes : List ℕ) where
-  pub bale-is : baleOf bytes 0 ≡ record { refusal = 0; settings = settingsIn bytes; note = noteIn bytes (u16At bytes 6) }
+  pub bale-is : baleOf bytes 0 ≡ record { refusal = 0; settings = settingsIn bytes; note = noteIn bytes (depthIn bytes) }
   unfolding baleOf
-  bale-is = rw (leaves-new 0 (settingsIn bytes) noSettings refl, leaves-new 0 (noteIn bytes (u16At bytes 6)) noNote refl)
+  bale-is = rw (leaves-new 0 (settingsIn bytes) noSettings refl, leaves-new 0 (noteIn bytes (depthIn bytes)) noNote refl)
 
   pub reading-is : (levels : List ℤ) → readRefusal bytes (length levels) ≡ 0
-      → readFile bytes levels ≡ record { answer = record { refusal = 0; settings = settingsIn bytes; note = noteIn bytes (u16At bytes 6) }; levels = levelsIn bytes }
+      → readFile bytes levels ≡ record { answer = record { refusal = 0; settings = settingsIn bytes; note = noteIn bytes (depthIn bytes) }; levels = levelsIn bytes }
   unfolding readFile
   reading-is levels e = rw (e, bale-is, leaves-new 0 (levelsIn bytes) levels refl)
 
 pub refused-bale : (bytes : List ℕ) {refusal : ℕ} → (refusal ≡ 0 → ⊥) → record { refusal = refusal; settings = noSettings; note = noNote } ≡ baleOf bytes refusal
 unfolding baleOf
 refused-bale bytes {refusal} refused =
-    rw (leaves-kept refusal (settingsIn bytes) noSettings refused, leaves-kept refusal (noteIn bytes (u16At bytes 6)) noNote refused)
+    rw (leaves-kept refusal (settingsIn bytes) noSettings refused, leaves-kept refusal (noteIn bytes (depthIn bytes)) noNote refused)
 
 module _ (bytes : List ℕ) (levels : List ℤ) {refusal : ℕ} (e : refusal ≡ readRefusal bytes (length levels)) {answer : Bale} where
   pub reading-refused : (refusal ≡ 0 → ⊥) → answer ≡ record { refusal = refusal; settings = noSettings; note = noNote }

@@ -16,15 +16,15 @@ use Rattle.pyramid.specs.Definitions.Refusals.{unless, indexOk, shapeRefusal, s
 use Rattle.pyramid.specs.Definitions.Answers.{shapeAnswer}
 use Rattle.pyramid.proofs.Refusals.{first-nil, first-none, answers-stop, answers-skip, answers-last, answers-second, answers-fails, answers-passes, accepted-shape, settings-bins}
 use Rattle.pyramid.proofs.ShapeAnswers.{shape-accepted, shape-total}
-use Rattle.bale.specs.Definitions.Words.{u16At, indicesAt}
+use Rattle.bale.specs.Definitions.Words.{indicesAt}
 use Rattle.bale.specs.Definitions.Sections.{sectionRefusal}
-use Rattle.bale.specs.Definitions.Reader.{settingsIn, levelsPlace, shapeSectionRefusal, levelSectionRefusal, levelSectionsRefusal, bodyRefusal}
+use Rattle.bale.specs.Definitions.Reader.{depthIn, settingsIn, levelsPlace, shapeSectionRefusal, levelSectionRefusal, levelSectionsRefusal, bodyRefusal}
 use Rattle.bale.specs.Definitions.Calls.{readRefusal}
 
 -- ---- the settings that a file holds
 
 module _ (bytes : List ℕ) (s : Settings) (e : s ≡ settingsIn bytes) where
-  pub depth-in : s .depth ≡ u16At bytes 6
+  pub depth-in : s .depth ≡ depthIn bytes
   unfolding settingsIn
   depth-in = rw e
 
@@ -35,7 +35,7 @@ module _ (bytes : List ℕ) (s : Settings) (e : s ≡ settingsIn bytes) where
   bins-in shape p = p ∙ settings-bins s (shape-accepted s shape) ∙ rw e
 
   pub levels-in : {m : ℕ} → m ≡ levelSectionsRefusal bytes s (s .depth) (levelsPlace (s .depth))
-      → m ≡ levelSectionsRefusal bytes (settingsIn bytes) (u16At bytes 6) (levelsPlace (u16At bytes 6))
+      → m ≡ levelSectionsRefusal bytes (settingsIn bytes) (depthIn bytes) (levelsPlace (depthIn bytes))
   unfolding settingsIn
   levels-in p = p ∙ rw e
 

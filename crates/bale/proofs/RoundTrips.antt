@@ -15,9 +15,8 @@ use Rattle.pyramid.proofs.Refusals.{first-nil, first-none, first-pass, unless-h
 use Rattle.pyramid.proofs.Sizes.{total-is, total-most}
 use Rattle.pyramid.proofs.CheckedLevels.{checked, levels-checked}
 use Rattle.bale.specs.declared.Note.{Note}
-use Rattle.bale.specs.Definitions.Words.{u16At}
 use Rattle.bale.specs.Definitions.Files.{shapeSection, binsSection, readingsSection, levelSections, fileOf, fileLength}
-use Rattle.bale.specs.Definitions.Reader.{binsPlace, readingsPlace, levelsPlace, settingsIn, noteIn, levelsFrom, levelsIn, shapeSectionRefusal, binsSectionRefusal, readingsSectionRefusal, levelSectionsRefusal, bodyRefusal}
+use Rattle.bale.specs.Definitions.Reader.{depthIn, binsPlace, readingsPlace, levelsPlace, settingsIn, noteIn, levelsFrom, levelsIn, shapeSectionRefusal, binsSectionRefusal, readingsSectionRefusal, levelSectionsRefusal, bodyRefusal}
 use Rattle.bale.specs.Definitions.Calls.{writeRefusal, readRefusal, readFile}
 use Rattle.bale.specs.Theorems.RoundTrips.{Held, WrittenThenRead, ReadThenWritten}
 use Rattle.bale.proofs.Stands.{Stands, stands-all, stands-whole, stands-front, stands-back, stands-join}
@@ -82,7 +81,7 @@ size-most : (s : Settings) → total s ≤ 22359 → s .depth ≤ 6 → fileLeng
 unfolding fileLength
 size-most s h k = omega arith
 
-depth-is : (s : Settings) (bytes : List ℕ) → settingsIn bytes ≡ s → u16At bytes 6 ≡ s .depth
+depth-is : (s : Settings) (bytes : List ℕ) → settingsIn bytes ≡ s → depthIn bytes ≡ s .depth
 unfolding settingsIn
 depth-is s bytes e = ap (λ (t : Settings). t .depth) e
 
@@ -156,7 +155,7 @@ module _ (bytes : List ℕ) (places : ℕ) (all : Bytes bytes) (e : readRefusal 
   found = settingsIn bytes
 
   abbrev depth : ℕ
-  depth = u16At bytes 6
+  depth = depthIn bytes
 
   -- what the reader has looked at
   record Looked : Type 0 where
@@ -229,6 +228,6 @@ read-then-written bytes lent all e =
       same = rw (reading-is bytes lent e) (again bytes (length lent) all e);
       written = λ file h.
           rw (reading-is bytes lent e)
-          (writing-is (settingsIn bytes) (noteIn bytes (u16At bytes 6)) (levelsIn bytes) file (accepted-again bytes (length lent) all e (length file) h)
+          (writing-is (settingsIn bytes) (noteIn bytes (depthIn bytes)) (levelsIn bytes) file (accepted-again bytes (length lent) all e (length file) h)
           ∙ rw (file-long bytes (length lent) all e, again bytes (length lent) all e));
     }

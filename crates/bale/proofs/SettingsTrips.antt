@@ -19,7 +19,7 @@ use Rattle.pyramid.proofs.Lawful.{slot-empty}
 use Rattle.bale.specs.Definitions.Words.{le16, words, u16At, wordsAt}
 use Rattle.bale.specs.Definitions.Sections.{numbersSection}
 use Rattle.bale.specs.Definitions.Files.{shapeSection, binsFrom, binsSection}
-use Rattle.bale.specs.Definitions.Reader.{binsPlace, slotIn, settingsIn}
+use Rattle.bale.specs.Definitions.Reader.{depthIn, binsPlace, slotIn, settingsIn}
 use Rattle.bale.proofs.Stands.{Stands}
 use Rattle.bale.proofs.WordLists.{Short, getD-wordsAt}
 use Rattle.bale.proofs.Sections.{Section, numbers-read, numbers-stand}
@@ -109,7 +109,7 @@ module _ {s : Settings} (bytes : List ℕ) (law : Lawful s) where
       let (bins, down) = bins-read st₂ in
       let c : u16At bytes 2 ≡ s .columns = ap (λ (ns : List ℕ). getD ns 0 0) four in
       let r : u16At bytes 4 ≡ s .rows = ap (λ (ns : List ℕ). getD ns 1 0) four in
-      let n : u16At bytes 6 ≡ s .depth = ap (λ (ns : List ℕ). getD ns 2 0) four in
+      let n : depthIn bytes ≡ s .depth = ap (λ (ns : List ℕ). getD ns 2 0) four in
       let k : u16At bytes 8 ≡ s .kernel = ap (λ (ns : List ℕ). getD ns 3 0) four in
       record { is = rw (c, r, n, k, slots-read ok seven down); shape = shape; bins = bins }
 
@@ -120,25 +120,25 @@ module _ (bytes : List ℕ) (all : Bytes bytes) where
   unfolding shapeSection numbersSection settingsIn wordsAt
   shape-stands w = numbers-stand all w
 
-  module _ (deep : u16At bytes 6 ≤ 6) where
-    bin-is : (l : ℕ) → l ≤ u16At bytes 6 → bin (settingsIn bytes) l ≡ u16At bytes (12 + 2 * (u16At bytes 6 - l))
+  module _ (deep : depthIn bytes ≤ 6) where
+    bin-is : (l : ℕ) → l ≤ depthIn bytes → bin (settingsIn bytes) l ≡ u16At bytes (12 + 2 * (depthIn bytes - l))
     unfolding settingsIn
-    bin-is l h = getD-tabulate 7 (slotIn bytes (u16At bytes 6)) 0 l (omega arith) ∙ slot-below bytes (u16At bytes 6) l h
+    bin-is l h = getD-tabulate 7 (slotIn bytes (depthIn bytes)) 0 l (omega arith) ∙ slot-below bytes (depthIn bytes) l h
 
-    bins-are : (l : ℕ) → l ≤ u16At bytes 6 → binsFrom (settingsIn bytes) l ≡ wordsAt bytes (12 + 2 * (u16At bytes 6 - l)) (suc l)
+    bins-are : (l : ℕ) → l ≤ depthIn bytes → binsFrom (settingsIn bytes) l ≡ wordsAt bytes (12 + 2 * (depthIn bytes - l)) (suc l)
     unfolding binsFrom wordsAt
     bins-are zero h = ap (λ (n : ℕ). n ∷ []) (bin-is 0 h)
     bins-are (suc l) h =
-        let e : 12 + 2 * (u16At bytes 6 - l) ≡ 12 + 2 * (u16At bytes 6 - suc l) + 2 = omega arith in
+        let e : 12 + 2 * (depthIn bytes - l) ≡ 12 + 2 * (depthIn bytes - suc l) + 2 = omega arith in
         ap₂ _∷_ (bin-is (suc l) h) (bins-are l (omega arith) ∙ ap (λ (p : ℕ). wordsAt bytes p (suc l)) e)
 
-    pub bins-stand : Section bytes binsPlace (u16At bytes 6 + 1) 2 → Stands (binsSection (settingsIn bytes)) bytes binsPlace
+    pub bins-stand : Section bytes binsPlace (depthIn bytes + 1) 2 → Stands (binsSection (settingsIn bytes)) bytes binsPlace
     unfolding binsSection numbersSection le16 binsFrom words
     bins-stand w =
-        let depth : settingsIn bytes .depth ≡ u16At bytes 6 = (unfold settingsIn in refl) in
-        let z : 12 + 2 * (u16At bytes 6 - u16At bytes 6) ≡ 12 = omega arith in
-        let down : binsFrom (settingsIn bytes) (u16At bytes 6) ≡ wordsAt bytes 12 (u16At bytes 6 + 1) =
-        bins-are (u16At bytes 6) (omega arith) ∙ rw (z, add-one)
+        let depth : settingsIn bytes .depth ≡ depthIn bytes = (unfold settingsIn in refl) in
+        let z : 12 + 2 * (depthIn bytes - depthIn bytes) ≡ 12 = omega arith in
+        let down : binsFrom (settingsIn bytes) (depthIn bytes) ≡ wordsAt bytes 12 (depthIn bytes + 1) =
+        bins-are (depthIn bytes) (omega arith) ∙ rw (z, add-one)
         in
-        let n : length (binsFrom (settingsIn bytes) (u16At bytes 6)) ≡ u16At bytes 6 + 1 = length-binsFrom (settingsIn bytes) (u16At bytes 6) in
+        let n : length (binsFrom (settingsIn bytes) (depthIn bytes)) ≡ depthIn bytes + 1 = length-binsFrom (settingsIn bytes) (depthIn bytes) in
         rw (depth, n, down) (numbers-stand all w)

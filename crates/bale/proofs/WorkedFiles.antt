@@ -15,14 +15,14 @@ use Rattle.bale.specs.Definitions.Words.{le16, le32, words, indexWord, w
 use Rattle.bale.specs.Definitions.Readings.{percentageOk, faultOk, codeWhere, codeOf, probeWhere, decode}
 use Rattle.bale.specs.Definitions.Sections.{numbersSection, sectionRefusal}
 use Rattle.bale.specs.Definitions.Files.{readingsSection, levelSection, shapeSection, binsFrom, binsSection, levelSections, fileOf}
-use Rattle.bale.specs.Definitions.Reader.{slotIn, settingsIn, probeAt, noteIn, levelsFrom, levelsIn, shapeSectionRefusal, binsSectionRefusal, readingsSectionRefusal, levelSectionRefusal, levelSectionsRefusal, bodyRefusal}
+use Rattle.bale.specs.Definitions.Reader.{depthIn, slotIn, settingsIn, probeAt, noteIn, levelsFrom, levelsIn, shapeSectionRefusal, binsSectionRefusal, readingsSectionRefusal, levelSectionRefusal, levelSectionsRefusal, bodyRefusal}
 use Rattle.bale.specs.Definitions.Calls.{checkRefusal, readRefusal, baleOf, checkFile, readFile}
 use Rattle.bale.specs.Checks.WorkedFiles.{WorkedFiles}
 use Rattle.bale.proofs.Answers.{reading-is}
 
 -- a level buffer of as many places as the file wants
 lent-read : (bytes : List ℕ) {places : ℕ} → readRefusal bytes places ≡ 0 → (lent : List ℤ) → length lent ≡ places
-    → readFile bytes lent ≡ record { answer = record { refusal = 0; settings = settingsIn bytes; note = noteIn bytes (u16At bytes 6) }; levels = levelsIn bytes }
+    → readFile bytes lent ≡ record { answer = record { refusal = 0; settings = settingsIn bytes; note = noteIn bytes (depthIn bytes) }; levels = levelsIn bytes }
 lent-read bytes none lent e = reading-is bytes lent (rw e none)
 
 pub workedFiles : WorkedFiles
