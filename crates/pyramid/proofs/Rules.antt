@@ -7,7 +7,8 @@ use Prim.Native.Nat.{ℕ, zero, suc}
 use borrow.Author.Tests.{eq-eqb}
 use lib.Dec.{T, eqb, T-not}
 use Rattle.mathematics.proofs.Tests.{both, both-of}
-use Rattle.pyramid.specs.Definitions.Refusals.{unless, first, oneOf}
+use Rattle.pyramid.specs.Definitions.Refusals.{unless, first}
+use Rattle.pyramid.specs.Checks.Numbers.{oneOf}
 use Rattle.pyramid.specs.Checks.Conditions.{Rule, GivenAfter, Given}
 use Rattle.pyramid.proofs.Refusals.{first-skip, unless-passes, unless-fails, answers-stop}
 

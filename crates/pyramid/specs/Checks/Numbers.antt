@@ -1,12 +1,18 @@
 -- Which numbers each call can answer (document 01, "Who can cause which refusal"), a row for each call. Assumes nothing.
+use mathlib.Core.Bool.{Bool, true, false, cond}
 use mathlib.Core.List.{List, [], _∷_, _++_}
 use Prim.Native.Nat.{ℕ}
-use lib.Dec.{T}
+use lib.Dec.{T, eqb}
 use lib.IntN.{ℤ}
 use Rattle.pyramid.specs.declared.Settings.{Settings}
-use Rattle.pyramid.specs.Definitions.Refusals.{oneOf, settingsRefusal, levelsRefusal}
+use Rattle.pyramid.specs.Definitions.Refusals.{settingsRefusal, levelsRefusal}
 use Rattle.pyramid.specs.Definitions.Calls.{coding, rebuilding}
 use Rattle.pyramid.specs.Definitions.Answers.{boundsAnswer, nodesAnswer, shapeAnswer, levelSizeAnswer, deepestAnswer}
+
+-- n is one of these numbers
+abbrev pub oneOf : List ℕ → ℕ → Bool
+oneOf [] n = false
+oneOf (m ∷ ms) n = cond (eqb n m) true (oneOf ms n)
 
 -- the answer is 0, where the call is accepted, or one of these numbers
 abbrev pub Answers : List ℕ → ℕ → Type 0

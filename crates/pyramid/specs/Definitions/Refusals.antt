@@ -1,6 +1,6 @@
 -- Who is refused, and with which number (document 01, "Who can cause which refusal"): the number of the first rule that is broken, in the
 -- order of each call; 0 where none is. Assumes nothing.
-use mathlib.Core.Bool.{Bool, true, false, cond}
+use mathlib.Core.Bool.{Bool, cond}
 use mathlib.Core.List.{List, [], _∷_}
 use Prim.Native.Nat.{ℕ, zero, suc, _*_}
 use lib.Dec.{leb, eqb}
@@ -22,11 +22,6 @@ unfoldable pub first : List ℕ → ℕ
 first [] = 0
 first (zero ∷ later) = first later
 first (suc number ∷ later) = suc number
-
--- n is one of these numbers
-abbrev pub oneOf : List ℕ → ℕ → Bool
-oneOf [] n = false
-oneOf (m ∷ ms) n = cond (eqb n m) true (oneOf ms n)
 
 -- the values of a lawful index lie within this of 0
 abbrev pub limit : ℕ
