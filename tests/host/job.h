@@ -9,7 +9,8 @@
 /* What the functions are lent: a buffer, a small array or a number each. NUMBER is a depth or a number of nodes. */
 enum thing { BINS, PICTURE, LEVELS, WORK, FILE_PART, NUMBER, SIZE, BOUNDS, SHAPE, READ_BINS, KINDS, NUMBERS, THINGS };
 
-enum { MORE = 8, MOST_LENT = (LEPSARVU_MOST_NODES + MORE) * (int)sizeof(int32_t) };
+enum { MORE = 9, MOST_LENT = (LEPSARVU_MOST_NODES + MORE) * (int)sizeof(int32_t) };
+_Static_assert(MOST_LENT % 16 == 0, "what is held is aligned");
 
 struct job {
     const struct pyramid_calls *pyramid; /* whose functions are called */
