@@ -1,8 +1,21 @@
 /* A program with no C library and no start-up but its own: the archive needs memset and nothing else. It codes piece A
- * of document 01, writes its file, reads it back and rebuilds the picture; the exit status is the step that failed. */
+ * of document 01, writes its file, reads it back and rebuilds the picture, with guard bytes around all that it lends;
+ * the exit status is the step that failed, or 64 more where that step changed a guard or what it only reads. */
 #include "../../include/lepsarvu.h"
 
-enum { NODES = 13, PIXELS = 9, FILE_BYTES = 58 };
+enum { NODES = 13, PIXELS = 9, FILE_BYTES = 58, GUARD = 32, ROOM = 64, GUARD_BYTE = 0xA5, CHANGED = 64 };
+enum thing { BINS, PICTURE, SHOWN, LEVELS, READ, WORK, FILE_PART, NUMBER, SIZE, BOUNDS, SHAPE, READ_BINS, KINDS,
+             NUMBERS, THINGS };
+
+static const uint16_t PIECE_BINS[7] = {10, 4, 0, 0, 0, 0, 0};
+static const uint8_t PIECE[PIXELS] = {0, 0, 0, 0, 100, 0, 0, 0, 0};
+
+static const size_t BYTES[THINGS] = {14, PIXELS, PIXELS, 2 * NODES, 2 * NODES, 4 * NODES, FILE_BYTES, 2, sizeof(size_t),
+                                     14, 8,      14,     2,         8};
+
+static struct {
+    _Alignas(16) uint8_t bytes[GUARD + ROOM + GUARD];
+} lent[THINGS];
 
 void *memset(void *to, int byte, size_t bytes);
 _Noreturn void _start(void);
@@ -14,36 +27,97 @@ void *memset(void *to, int byte, size_t bytes)
     return to;
 }
 
+static void *at(enum thing thing)
+{
+    return lent[thing].bytes + GUARD;
+}
+
+static size_t number_at(enum thing thing)
+{
+    return thing == SIZE ? *(size_t *)at(thing) : *(uint16_t *)at(thing);
+}
+
+static void lend(void)
+{
+    for (int thing = 0; thing < THINGS; thing++)
+        memset(lent[thing].bytes, GUARD_BYTE, sizeof lent[thing].bytes);
+    for (int slot = 0; slot < 7; slot++)
+        ((uint16_t *)at(BINS))[slot] = PIECE_BINS[slot];
+    for (int pixel = 0; pixel < PIXELS; pixel++)
+        ((uint8_t *)at(PICTURE))[pixel] = PIECE[pixel];
+}
+
+/* All bytes before and after the things, and the two that no step writes, are as they were. */
+static int kept(void)
+{
+    int all = 1;
+    for (int thing = 0; thing < THINGS; thing++)
+        for (size_t place = 0; place < sizeof lent[thing].bytes; place++)
+            if (place < GUARD || place >= GUARD + BYTES[thing])
+                all &= lent[thing].bytes[place] == GUARD_BYTE;
+    for (int slot = 0; slot < 7; slot++)
+        all &= ((uint16_t *)at(BINS))[slot] == PIECE_BINS[slot];
+    for (int pixel = 0; pixel < PIXELS; pixel++)
+        all &= ((uint8_t *)at(PICTURE))[pixel] == PIECE[pixel];
+    return all;
+}
+
+/* Whether a step on settings is as it should be, and the coding. */
+static int step(int which)
+{
+    const int16_t *levels = at(LEVELS);
+    const uint16_t *bounds = at(BOUNDS);
+    switch (which) {
+    case 1:
+        return lepsarvu_deepest_depth(3, 3, at(NUMBER)) == 0 && number_at(NUMBER) == 1;
+    case 2:
+        return lepsarvu_total_nodes(3, 3, 1, 4, at(BINS), at(NUMBER)) == 0 && number_at(NUMBER) == NODES;
+    case 3:
+        return lepsarvu_level_bounds(3, 3, 1, 4, at(BINS), at(BOUNDS)) == 0 && bounds[0] == 7 && bounds[1] == 2;
+    case 4:
+        return lepsarvu_coding(3, 3, 1, 4, at(BINS), at(PICTURE), PIXELS, at(LEVELS), NODES, at(WORK), NODES) == 0 &&
+               levels[8] == 7;
+    default:
+        return lepsarvu_file_size(3, 3, 1, 4, at(BINS), at(SIZE)) == 0 && number_at(SIZE) == FILE_BYTES;
+    }
+}
+
+/* The same of the steps that follow: the file, and the picture from it. */
+static int late_step(int which)
+{
+    const int16_t *read = at(READ);
+    const uint16_t *shape = at(SHAPE);
+    const uint8_t *shown = at(SHOWN);
+    switch (which) {
+    case 6:
+        return lepsarvu_write_file(3, 3, 1, 4, at(BINS), 1, 0x40D00000, 0, 0, at(LEVELS), NODES, at(FILE_PART),
+                                   FILE_BYTES, at(SIZE)) == 0;
+    case 7:
+        return lepsarvu_check_file(at(FILE_PART), number_at(SIZE), at(SHAPE), at(READ_BINS), at(KINDS),
+                                   at(NUMBERS)) == 0 &&
+               *(uint32_t *)at(NUMBERS) == 0x40D00000;
+    case 8:
+        return lepsarvu_read_file(at(FILE_PART), number_at(SIZE), at(READ), NODES, at(SHAPE), at(READ_BINS), at(KINDS),
+                                  at(NUMBERS)) == 0 &&
+               read[8] == 7;
+    case 9:
+        return lepsarvu_rebuilding(shape[0], shape[1], shape[2], shape[3], at(READ_BINS), at(READ), NODES, at(SHOWN),
+                                   PIXELS, at(WORK), NODES) == 0;
+    default:
+        return shown[4] == 94 && shown[0] == 0;
+    }
+}
+
 static int steps(void)
 {
-    static const uint16_t BINS[7] = {10, 4, 0, 0, 0, 0, 0};
-    static const uint8_t PICTURE[PIXELS] = {0, 0, 0, 0, 100, 0, 0, 0, 0};
-    static uint8_t shown[PIXELS], file[FILE_BYTES];
-    static int16_t levels[NODES], read[NODES];
-    static int32_t work[NODES];
-    uint16_t nodes, depth, bounds[7], shape[4], bins[7];
-    uint8_t kinds[2];
-    uint32_t numbers[2];
-    size_t size;
-    if (lepsarvu_deepest_depth(3, 3, &depth) != 0 || depth != 1)
-        return 1;
-    if (lepsarvu_total_nodes(3, 3, 1, 4, BINS, &nodes) != 0 || nodes != NODES)
-        return 2;
-    if (lepsarvu_level_bounds(3, 3, 1, 4, BINS, bounds) != 0 || bounds[0] != 7 || bounds[1] != 2)
-        return 3;
-    if (lepsarvu_coding(3, 3, 1, 4, BINS, PICTURE, PIXELS, levels, NODES, work, NODES) != 0 || levels[8] != 7)
-        return 4;
-    if (lepsarvu_file_size(3, 3, 1, 4, BINS, &size) != 0 || size != FILE_BYTES)
-        return 5;
-    if (lepsarvu_write_file(3, 3, 1, 4, BINS, 1, 0x40D00000, 0, 0, levels, NODES, file, FILE_BYTES, &size) != 0)
-        return 6;
-    if (lepsarvu_check_file(file, size, shape, bins, kinds, numbers) != 0 || numbers[0] != 0x40D00000)
-        return 7;
-    if (lepsarvu_read_file(file, size, read, NODES, shape, bins, kinds, numbers) != 0 || read[8] != 7)
-        return 8;
-    if (lepsarvu_rebuilding(shape[0], shape[1], shape[2], shape[3], bins, read, NODES, shown, PIXELS, work, NODES) != 0)
-        return 9;
-    return shown[4] == 94 && shown[0] == 0 ? 0 : 10;
+    lend();
+    for (int which = 1; which <= 10; which++) {
+        if (!(which <= 5 ? step(which) : late_step(which)))
+            return which;
+        if (!kept())
+            return CHANGED + which;
+    }
+    return 0;
 }
 
 /* Linux enters with a stack pointer that is divisible by 16, and a function with one that is 8 off. */

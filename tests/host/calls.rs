@@ -1,8 +1,11 @@
 //! Document 01's piece A through the library from Rust: coding, rebuilding, the file, and refusals.
 
+mod calls_raw;
+mod lent;
 #[path = "../../examples/rust/lepsarvu.rs"]
 mod lepsarvu;
 
+use lent::{Guard, Lent};
 use lepsarvu::{Note, Reading, Refused, Settings};
 use std::fmt::Debug;
 
@@ -54,74 +57,136 @@ fn sizes(t: &mut Tally) {
     t.equal("no bin", lepsarvu::file_size(&Settings { bins: [0; 7], ..PIECE_A }), refused(3));
 }
 
+/// The buffers of a coding and a rebuilding, and the settings, between guards.
+struct Buffers {
+    settings: Lent<Settings>,
+    picture: Lent<u8>,
+    levels: Lent<i16>,
+    work: Lent<i32>,
+    shown: Lent<u8>,
+}
+
+impl Guard for Settings {
+    const GUARD: Self = Settings { columns: 0xA5A5, rows: 0xA5A5, depth: 0xA5A5, kernel: 0xA5A5, bins: [0xA5A5; 7] };
+}
+
+impl Buffers {
+    fn new(places: usize) -> Self {
+        Buffers {
+            settings: Lent::of(&[PIECE_A]),
+            picture: Lent::of(&PICTURE),
+            levels: Lent::of(&[99; NODES]),
+            work: Lent::of(&vec![77; places]),
+            shown: Lent::of(&[55; 9]),
+        }
+    }
+
+    /// Codes with buffers from these places on.
+    fn code(&mut self, picture: usize, levels: usize, work: usize) -> Result<(), Refused> {
+        let (lent, indices) = (&self.picture.part()[picture..], &mut self.levels.part_mut()[levels..]);
+        lepsarvu::coding(&self.settings.part()[0], lent, indices, &mut self.work.part_mut()[work..])
+    }
+
+    fn rebuild(&mut self, work: usize) -> Result<(), Refused> {
+        let (lent, shown) = (self.levels.part(), self.shown.part_mut());
+        lepsarvu::rebuilding(&self.settings.part()[0], lent, shown, &mut self.work.part_mut()[work..])
+    }
+
+    fn guards_kept(&self) -> bool {
+        let written = [self.levels.guards_kept(), self.work.guards_kept(), self.shown.guards_kept()];
+        self.settings.kept() && self.picture.kept() && written == [true; 3]
+    }
+
+    fn kept(&self) -> bool {
+        self.guards_kept() && self.levels.kept() && self.work.kept() && self.shown.kept()
+    }
+}
+
 /// Places of the work buffer after T keep their contents.
 fn code_and_rebuild(t: &mut Tally) {
-    let (mut levels, mut work, mut shown) = ([99; NODES], [77; NODES + 2], [55; 9]);
-    t.equal("coding", lepsarvu::coding(&PIECE_A, &PICTURE, &mut levels, &mut work), Ok(()));
-    t.equal("indices", levels, INDICES);
-    t.equal("averages", &work[..NODES], &AVERAGES[..]);
-    t.equal("after the averages", &work[NODES..], &[77, 77][..]);
-    t.equal("rebuilding", lepsarvu::rebuilding(&PIECE_A, &levels, &mut shown, &mut work), Ok(()));
-    t.equal("values", &work[..NODES], &VALUES[..]);
-    t.equal("after the values", &work[NODES..], &[77, 77][..]);
-    t.equal("picture", shown, SHOWN);
+    let mut b = Buffers::new(NODES + 2);
+    t.equal("coding", b.code(0, 0, 0), Ok(()));
+    t.equal("indices", b.levels.part(), &INDICES[..]);
+    t.equal("averages", &b.work.part()[..NODES], &AVERAGES[..]);
+    t.equal("after the averages", &b.work.part()[NODES..], &[77, 77][..]);
+    t.equal("coding: guards, and the picture that was to be shown", (b.guards_kept(), b.shown.kept()), (true, true));
+    b.levels.seal();
+    t.equal("rebuilding", b.rebuild(0), Ok(()));
+    t.equal("values", &b.work.part()[..NODES], &VALUES[..]);
+    t.equal("after the values", &b.work.part()[NODES..], &[77, 77][..]);
+    t.equal("picture", b.shown.part(), &SHOWN[..]);
+    t.equal("rebuilding: guards and levels", (b.guards_kept(), b.levels.kept()), (true, true));
 }
 
 /// Refused calls change nothing.
 fn refuse_buffers(t: &mut Tally) {
-    let (mut levels, mut work, mut shown) = ([99; NODES], [77; NODES], [55; 9]);
-    let short = lepsarvu::coding(&PIECE_A, &PICTURE[1..], &mut levels, &mut work);
-    t.equal("picture too short", short, refused(5));
-    t.equal("no picture", lepsarvu::coding(&PIECE_A, &[], &mut levels, &mut work), refused(5));
-    t.equal("levels", lepsarvu::coding(&PIECE_A, &PICTURE, &mut levels[1..], &mut work), refused(6));
-    t.equal("work", lepsarvu::coding(&PIECE_A, &PICTURE, &mut levels, &mut work[1..]), refused(7));
+    let mut b = Buffers::new(NODES);
+    for (name, (picture, levels, work), number) in [
+        ("picture too short", (1, 0, 0), 5),
+        ("no picture", (9, 0, 0), 5),
+        ("levels", (0, 1, 0), 6),
+        ("work", (0, 0, 1), 7),
+    ] {
+        t.equal(name, b.code(picture, levels, work), refused(number));
+        t.equal("unchanged", b.kept(), true);
+    }
     let mut large = INDICES;
     large[4] = 410; // times bin 10
-    t.equal("index 410", lepsarvu::rebuilding(&PIECE_A, &large, &mut shown, &mut work), refused(11));
+    b.levels = Lent::of(&large);
+    t.equal("index 410", b.rebuild(0), refused(11));
+    t.equal("unchanged", b.kept(), true);
     large[4] = 409;
-    t.equal("no work", lepsarvu::rebuilding(&PIECE_A, &large, &mut shown, &mut []), refused(7));
-    t.equal("unchanged", (levels, work, shown), ([99; NODES], [77; NODES], [55; 9]));
-    t.equal("index 409", lepsarvu::rebuilding(&PIECE_A, &large, &mut shown, &mut work), Ok(()));
+    b.levels = Lent::of(&large);
+    t.equal("no work", b.rebuild(NODES), refused(7));
+    t.equal("unchanged", b.kept(), true);
+    t.equal("index 409", b.rebuild(0), Ok(()));
+    t.equal("guards", b.guards_kept(), true);
 }
 
 fn write(t: &mut Tally) {
-    let mut file = [0xEE; 60];
-    t.equal("writing", lepsarvu::write_file(&NOTE, &INDICES, &mut file), Ok(58));
-    t.equal("file", &file[..58], &FILE[..]);
-    t.equal("after the file", &file[58..], &[0xEE, 0xEE][..]);
-    let mut other = [0xEE; 60];
+    let (indices, mut file, mut other) = (Lent::of(&INDICES), Lent::of(&[0xEE; 60]), Lent::of(&[0xEE; 60]));
+    t.equal("writing", lepsarvu::write_file(&NOTE, indices.part(), file.part_mut()), Ok(58));
+    t.equal("file", &file.part()[..58], &FILE[..]);
+    t.equal("after the file", &file.part()[58..], &[0xEE, 0xEE][..]);
+    t.equal("guards", (indices.kept(), file.guards_kept()), (true, true));
     let bad = |number| Note { readings: [Reading { kind: 1, number }, READINGS[1]], ..NOTE };
-    t.equal("above 100", lepsarvu::write_file(&bad(0x42C80001), &INDICES, &mut other), refused(4));
-    t.equal("below 0", lepsarvu::write_file(&bad(0x80000000), &INDICES, &mut other), refused(4));
-    t.equal("levels", lepsarvu::write_file(&NOTE, &INDICES[1..], &mut other), refused(6));
-    t.equal("file too short", lepsarvu::write_file(&NOTE, &INDICES, &mut other[..57]), refused(8));
-    t.equal("index", lepsarvu::write_file(&NOTE, &[1025; NODES], &mut other), refused(11));
-    t.equal("unchanged file", other, [0xEE; 60]);
-    t.equal("100", lepsarvu::write_file(&bad(0x42C80000), &INDICES, &mut other), Ok(58));
+    let large = Lent::of(&[1025; NODES]);
+    for (name, note, levels, length, number) in [
+        ("above 100", bad(0x42C80001), indices.part(), 60, 4),
+        ("below 0", bad(0x80000000), indices.part(), 60, 4),
+        ("levels", NOTE, &indices.part()[1..], 60, 6),
+        ("file too short", NOTE, indices.part(), 57, 8),
+        ("index", NOTE, large.part(), 60, 11),
+    ] {
+        t.equal(name, lepsarvu::write_file(&note, levels, &mut other.part_mut()[..length]), refused(number));
+        t.equal("unchanged", (indices.kept(), large.kept(), other.kept()), (true, true, true));
+    }
+    t.equal("100", lepsarvu::write_file(&bad(0x42C80000), indices.part(), other.part_mut()), Ok(58));
+    t.equal("guards", (indices.kept(), other.guards_kept()), (true, true));
 }
 
 fn read(t: &mut Tally) {
-    let mut levels = [99; NODES];
-    t.equal("level buffer", lepsarvu::read_file(&FILE, &mut levels[1..]), refused(6));
-    t.equal("empty file", lepsarvu::read_file(&[], &mut levels), refused(9));
-    t.equal("empty file checked", lepsarvu::check_file(&[]), refused(9));
+    let (file, mut levels) = (Lent::of(&FILE), Lent::of(&[99; NODES]));
+    t.equal("level buffer", lepsarvu::read_file(file.part(), &mut levels.part_mut()[1..]), refused(6));
+    t.equal("empty file", lepsarvu::read_file(&file.part()[..0], levels.part_mut()), refused(9));
     for length in 0..FILE.len() {
-        t.equal("cut file", lepsarvu::check_file(&FILE[..length]), refused(9));
+        t.equal("cut file", lepsarvu::check_file(&file.part()[..length]), refused(9));
     }
-    let longer = [&FILE[..], &[0]].concat();
-    t.equal("longer file", lepsarvu::read_file(&longer, &mut levels), refused(12));
+    let longer = Lent::of(&[&FILE[..], &[0]].concat());
+    t.equal("longer file", lepsarvu::read_file(longer.part(), levels.part_mut()), refused(12));
     let mut wrong = FILE;
     wrong[0] = 5;
-    t.equal("wrong count", lepsarvu::check_file(&wrong), refused(10));
-    t.equal("unchanged levels", levels, [99; NODES]);
-    t.equal("reading", lepsarvu::read_file(&FILE, &mut levels), Ok(NOTE));
-    t.equal("indices read", levels, INDICES);
-    t.equal("checking", lepsarvu::check_file(&FILE), Ok(NOTE));
+    t.equal("wrong count", lepsarvu::check_file(Lent::of(&wrong).part()), refused(10));
+    t.equal("unchanged", (file.kept(), longer.kept(), levels.kept()), (true, true, true));
+    t.equal("reading", lepsarvu::read_file(file.part(), levels.part_mut()), Ok(NOTE));
+    t.equal("indices read", levels.part(), &INDICES[..]);
+    t.equal("checking", lepsarvu::check_file(file.part()), Ok(NOTE));
+    t.equal("guards", (file.kept(), levels.guards_kept()), (true, true));
 }
 
 fn main() {
     let mut t = Tally::default();
-    for part in [sizes, code_and_rebuild, refuse_buffers, write, read] {
+    for part in [sizes, code_and_rebuild, refuse_buffers, write, read, calls_raw::all] {
         part(&mut t);
     }
     println!("{} passed, {} failed", t.passed, t.failed);

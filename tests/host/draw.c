@@ -30,8 +30,18 @@ struct settings draw_lawful(struct seeded *draw, uint32_t most_side)
     return s;
 }
 
-/* Puts one setting where it may be unlawful. */
-static void spoil(struct seeded *draw, struct settings *s)
+struct settings draw_for_size(struct seeded *draw, uint16_t columns, uint16_t rows, uint32_t most_bin)
+{
+    struct settings s = {columns, rows, 0, 0, {0}};
+    plain_pyramid.deepest_depth(columns, rows, &s.depth);
+    s.depth = (uint16_t)below(draw, s.depth + 1u);
+    s.kernel = (uint16_t)(3 + below(draw, 4));
+    for (int slot = 0; slot <= s.depth; slot++)
+        s.bins[slot] = (uint16_t)(1 + (draw_bin(draw) - 1) % most_bin);
+    return s;
+}
+
+void spoil(struct seeded *draw, struct settings *s)
 {
     static const uint16_t SIDES[] = {0, 1, 2, 3, 4, 6, 10, 128, 129, 130, 131, 257, 65535};
     static const uint16_t DEPTHS[] = {0, 1, 2, 3, 6, 7, 8, 16, 32, 64, 65535};

@@ -23,6 +23,12 @@ struct settings draw_lawful(struct seeded *draw, uint32_t most_side);
 struct settings draw_settings(struct seeded *draw, uint32_t most_side);
 int is_lawful(const struct settings *s);
 
+/* Lawful settings of a lawful size, any depth of it among them, with bins to some largest. */
+struct settings draw_for_size(struct seeded *draw, uint16_t columns, uint16_t rows, uint32_t most_bin);
+
+/* Puts one setting where it may be unlawful. */
+void spoil(struct seeded *draw, struct settings *s);
+
 /* The right lengths of lawful settings, and some of others. */
 size_t pixels_of(const struct settings *s);
 size_t nodes_of(const struct settings *s);
@@ -31,6 +37,7 @@ size_t draw_length(struct seeded *draw, size_t right);
 void draw_picture(struct seeded *draw, const struct settings *s, uint8_t *picture, size_t length);
 void draw_levels(struct seeded *draw, const struct settings *s, int16_t *levels, size_t length);
 struct reading draw_reading(struct seeded *draw);
+struct reading draw_lawful_reading(struct seeded *draw);
 
 /* A whole or damaged file; answers its length. */
 size_t draw_file(struct seeded *draw, uint32_t most_side, uint8_t file[MOST_DRAWN_FILE]);

@@ -3,7 +3,7 @@
 
 #include "draw.h"
 
-static struct reading draw_lawful_reading(struct seeded *draw)
+struct reading draw_lawful_reading(struct seeded *draw)
 {
     switch (below(draw, 3)) {
     case 0:

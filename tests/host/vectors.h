@@ -2,9 +2,7 @@
 #ifndef HOST_VECTORS_H
 #define HOST_VECTORS_H
 
-#include "draw.h"
-#include "lent.h"
-#include "tally.h"
+#include "job.h"
 
 extern struct seeded draw;
 extern struct tally tally;
@@ -15,6 +13,12 @@ struct note {
     uint8_t kinds[2];
     uint32_t numbers[2];
 };
+
+/* Makes a function's call between guards; answers whether what it may not write was kept. */
+int call(enum function function);
+
+/* Whether a thing holds these bytes, from its start. */
+int holds(enum thing thing, const void *expected, size_t bytes);
 
 /* Whether another case follows. */
 int next_case(void);
