@@ -51,18 +51,22 @@ const PLACES: [usize; 4] = [0, 65, 6, 5];
 
 const INDICES: [i16; 4] = [4097, 1366, -2049, -4097];
 
-// One of these, or an index that is within 4,096.
+// One of these, or an index that is within 4,096: at bin 3 it is -4,095, which with 200 is -3,895.
 fn put(is_faulty: bool, variant: u32) -> Put {
     if is_faulty && variant < 4 {
         let i = variant as usize;
         return Put {
             place: PLACES[i],
             index: INDICES[i],
+            value: 0,
+            pixel: 0,
         };
     }
     Put {
         place: 65,
         index: -1365,
+        value: -3895,
+        pixel: 0,
     }
 }
 

@@ -61,22 +61,22 @@ fn nodes_give(s: Settings, answer: u16) -> bool {
     t.refusal == answer && t.nodes as usize == nodes
 }
 
-// The bounds are answered with seven zeros where the settings are refused.
-fn bounds_give(s: Settings, answer: u16) -> bool {
+// The bounds, or seven zeros where the settings are refused.
+fn bounds_give(s: Settings, answer: u16, bounds: [u16; 7]) -> bool {
     let b = pyramid::level_bounds(s);
     let slots = b.levels;
-    b.refusal == answer && (answer == 0 || comparing::slots(slots, [0; 7]) == 7)
+    b.refusal == answer && comparing::slots(slots, bounds) == 7
 }
 
 // The answer of all functions, with buffers of the lengths of the settings without the fault.
-pub(crate) fn answered(t: Tally, s: Settings, answer: u16) -> Tally {
+pub(crate) fn answered(t: Tally, s: Settings, answer: u16, bounds: [u16; 7]) -> Tally {
     let n = Lengths {
         picture: base::PIXELS,
         levels: base::NODES,
         work: base::NODES,
     };
     let mut u = checked(t, nodes_give(s, answer));
-    u = checked(u, bounds_give(s, answer));
+    u = checked(u, bounds_give(s, answer, bounds));
     u = checked(u, calling::gives(CODING, s, n, NO_PUT, answer));
     u = checked(u, calling::gives(REBUILDING, s, n, NO_PUT, answer));
     shapes::answered(u, s, answer)
@@ -103,13 +103,45 @@ fn answer_to(setting: u16, value: u16) -> u16 {
     3
 }
 
+// The bounds of a lawful bin in a slot that has one: half of it, rounded down, and the bounds of the levels below rise with it.
+fn bounds_with(setting: u16, bin: u16) -> [u16; 7] {
+    if bin == 1 {
+        return match setting {
+            SLOTS => [1, 1, 0, 0, 0, 0, 0],
+            5 => [1, 0, 0, 0, 0, 0, 0],
+            _ => [2, 1, 0, 0, 0, 0, 0],
+        };
+    }
+    match setting {
+        SLOTS => [128, 1, 0, 0, 0, 0, 0],
+        5 => [128, 127, 0, 0, 0, 0, 0],
+        _ => [129, 128, 127, 0, 0, 0, 0],
+    }
+}
+
+// The bounds with a setting in place of the lawful one. Of the bins 3, 2 and 1 they are 2, 1 and 0; for k = 6, whose multiplier
+// is 1.96, rounded up, 3, 1 and 0. A refusal holds zeros.
+fn bounds_to(setting: u16, value: u16) -> [u16; 7] {
+    if answer_to(setting, value) != 0 {
+        return [0; 7];
+    }
+    if setting == KERNEL && value == 6 {
+        return [3, 1, 0, 0, 0, 0, 0];
+    }
+    if SLOTS <= setting && value != 0 {
+        return bounds_with(setting, value);
+    }
+    [2, 1, 0, 0, 0, 0, 0]
+}
+
 // A setting with each of some values.
 fn each(t: Tally, setting: u16, values: &[u16]) -> Tally {
     let mut u = t;
     let mut i = 0;
     while i < values.len() {
         let value = values[i];
-        u = answered(u, with_setting(setting, value), answer_to(setting, value));
+        let s = with_setting(setting, value);
+        u = answered(u, s, answer_to(setting, value), bounds_to(setting, value));
         i += 1;
     }
     u

@@ -10,6 +10,14 @@ use test_support::reporting::Tally;
 use test_support::reporting::checked;
 use test_support::reporting::empty;
 
+// At bin 3 index 5 is 15, which with 200 is 215.
+const PUT: Put = Put {
+    place: 21,
+    index: 5,
+    value: 215,
+    pixel: 215,
+};
+
 // Both calls with buffers of these lengths.
 fn answered(t: Tally, picture: usize, levels: usize, work: usize, answer: u16) -> Tally {
     let n = Lengths {
@@ -17,9 +25,8 @@ fn answered(t: Tally, picture: usize, levels: usize, work: usize, answer: u16) -
         levels: levels,
         work: work,
     };
-    let put = Put { place: 1, index: 1 };
     let u = checked(t, calling::gives(CODING, BASE, n, NO_PUT, answer));
-    checked(u, calling::gives(REBUILDING, BASE, n, put, answer))
+    checked(u, calling::gives(REBUILDING, BASE, n, PUT, answer))
 }
 
 pub(crate) fn all() -> Tally {

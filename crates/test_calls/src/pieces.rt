@@ -47,8 +47,9 @@ fn coded(
     work: &[i32],
 ) -> Tally {
     let mut u = checked(t, answer == 0);
-    u = checked(u, buffers::are_levels(levels, indices));
-    u = checked(u, buffers::is_work(work, averages));
+    let n = indices.len();
+    u = checked(u, comparing::levels(levels, indices, n) == n);
+    u = checked(u, comparing::work(work, averages, n) == n);
     checked(u, buffers::is_work_kept(work, averages.len()))
 }
 
@@ -62,7 +63,8 @@ fn rebuilt(
     work: &[i32],
 ) -> Tally {
     let mut u = checked(t, answer == 0);
-    u = checked(u, buffers::is_work(work, values));
+    let nodes = values.len();
+    u = checked(u, comparing::work(work, values, nodes) == nodes);
     let n = pixels.len();
     checked(u, comparing::bytes(picture, pixels, n) == n)
 }
@@ -120,6 +122,8 @@ fn smallest(t: Tally) -> Tally {
     let put = Put {
         place: 3,
         index: 4096,
+        value: 4096,
+        pixel: 255,
     };
     u = checked(u, calling::gives(CODING, s, four, NO_PUT, 0));
     checked(u, calling::gives(REBUILDING, s, four, put, 0))
@@ -127,11 +131,11 @@ fn smallest(t: Tally) -> Tally {
 
 // C or R of 1 or 130; C = 4 with N = 1; the smallest picture.
 pub(crate) fn sizes() -> Tally {
-    let mut u = faults::answered(empty(), settings(1, 3, 0, 4, 1, 0), 1);
-    u = faults::answered(u, settings(130, 3, 0, 4, 1, 0), 1);
-    u = faults::answered(u, settings(3, 1, 0, 4, 1, 0), 1);
-    u = faults::answered(u, settings(3, 130, 0, 4, 1, 0), 1);
-    u = faults::answered(u, settings(4, 3, 1, 4, 1, 1), 1);
+    let mut u = faults::answered(empty(), settings(1, 3, 0, 4, 1, 0), 1, [0; 7]);
+    u = faults::answered(u, settings(130, 3, 0, 4, 1, 0), 1, [0; 7]);
+    u = faults::answered(u, settings(3, 1, 0, 4, 1, 0), 1, [0; 7]);
+    u = faults::answered(u, settings(3, 130, 0, 4, 1, 0), 1, [0; 7]);
+    u = faults::answered(u, settings(4, 3, 1, 4, 1, 1), 1, [0; 7]);
     smallest(u)
 }
 
@@ -180,6 +184,8 @@ fn refused_index(t: Tally, place: usize, index: i16) -> Tally {
     let put = Put {
         place: place,
         index: index,
+        value: 0,
+        pixel: 0,
     };
     checked(t, calling::gives(REBUILDING, s, n, put, 11))
 }

@@ -89,9 +89,21 @@ fn compare_settings(a: Settings, b: Settings) -> usize {
     11
 }
 
-fn is_held(reading: Reading, held: Held) -> bool {
-    let code = bale::reading_code(reading);
-    code.refusal == 0 && code.kind == held.kind && code.number == held.number
+// A float that is at most 100 is no NaN, and has bits.
+fn has_bits(x: f32, bits: u32) -> bool {
+    if x <= 100.0 {
+        return f32::to_bits(x) == bits;
+    }
+    false
+}
+
+// By what the reading holds, and not by what `reading_code` says of it.
+pub(crate) fn is_held(reading: Reading, held: Held) -> bool {
+    match reading {
+        Reading::NotFitted => held.kind == 0 && held.number == 0,
+        Reading::Percentage(x) => held.kind == 1 && has_bits(x, held.number),
+        Reading::Fault(n) => held.kind == 2 && held.number == n,
+    }
 }
 
 // Reading 0 before the drier, reading 1 at the press.

@@ -3,6 +3,7 @@ use crate::piece_a;
 use crate::writers;
 use bale::Note;
 use bale::Reading;
+use pyramid::Settings;
 use test_support::faults::has;
 use test_support::faults::lowest;
 use test_support::faults::with_faults;
@@ -10,6 +11,7 @@ use test_support::reporting;
 use test_support::reporting::Finding;
 use test_support::reporting::Tally;
 use test_support::reporting::difference;
+use test_support::reporting::either;
 ghost use mathlib.Core.Path.{_≡_};
 ghost use lib.ListN.{length};
 
@@ -81,6 +83,14 @@ fn lent_room(is_faulty: bool, variant: u32) -> usize {
     58
 }
 
+// The size of a file of settings with those of the faults that are the settings': they are the lowest.
+fn check_size(answer: u16, s: Settings) -> Finding {
+    if 1 <= answer && answer <= 3 {
+        return writers::check_size(s, answer, 0);
+    }
+    writers::check_size(s, 0, 58)
+}
+
 // Lends the first places of the levels and the first bytes of a buffer.
 fn check_lent(answer: u16, faults: u32, variant: u32, table: &[u16], levels: &[i16]) -> Finding {
     let s = with_faults(piece_a::SETTINGS, faults, table, variant);
@@ -91,7 +101,8 @@ fn check_lent(answer: u16, faults: u32, variant: u32, table: &[u16], levels: &[i
     if 64 < n {
         return difference(reporting::CASE_CUT, n);
     }
-    writers::check_writing(answer, s, note, levels, &file, &mut out[0..n])
+    let written = writers::check_writing(answer, s, note, levels, &file, &mut out[0..n]);
+    either(check_size(answer, s), written)
 }
 
 fn check_set(faults: u32, variant: u32, table: &[u16]) -> Finding {

@@ -1,6 +1,7 @@
-// Holds the bale file's readers and writer to files that another implementation answered (tests/reference), and the writer to every set of faults.
+// Holds the bale file's readers and writer to files that another implementation answered (tests/reference), the writer to every set of faults, and readings to their codes.
 mod answers;
 mod cases;
+mod codes;
 mod faults;
 mod parts;
 mod piece_a;
@@ -28,4 +29,5 @@ fn main() {
     report(b"files.bin");
     parts::print(b"sets of faults, writing", faults::check_all());
     parts::print(b"single readings, writing", singles::check_all());
+    parts::print(b"readings and their codes", codes::check_all());
 }

@@ -23,6 +23,10 @@ pub(crate) const WRITING_LONGER: u16 = 7;
 
 pub(crate) const WRITING_SHORTER: u16 = 8;
 
+pub(crate) const CODING: u16 = 9;
+
+pub(crate) const DECODING: u16 = 10;
+
 pub(crate) const REFUSAL: u16 = 3;
 
 pub(crate) const SETTING: u16 = 4;
@@ -39,12 +43,15 @@ pub(crate) const BYTE: u16 = 9;
 
 pub(crate) const KEPT_BYTE: u16 = 10;
 
-// Writes the line of a group of cases, and where its first mismatch is: for a refusal or a size, the one that was answered.
+pub(crate) const CODE: u16 = 11;
+
+// Writes the line of a group of cases, and where its first mismatch is: for a refusal, a size or a
+// code's kind, the one that was answered.
 pub(crate) fn print(group: &[u8], t: Tally) {
     reporting::print_cases(
         group,
         t,
-        b"|check_file, |read_file, |read_file with a place more, |read_file with a place fewer, |file_size, |write_file, |write_file with bytes more, |write_file with a byte fewer, |",
-        b"||end of the vectors|refusal|setting|reading|index|index to be kept|size|byte|byte to be kept|",
+        b"|check_file, |read_file, |read_file with a place more, |read_file with a place fewer, |file_size, |write_file, |write_file with bytes more, |write_file with a byte fewer, |reading_code, |coded_reading, |",
+        b"||end of the vectors|refusal|setting|reading|index|index to be kept|size|byte|byte to be kept|code|",
     );
 }

@@ -11,11 +11,11 @@ ghost use Prim.Native.Nat.{_≤_};
 ghost use lib.ListN.{length};
 
 // A reading; and its kind and number in the file, or refusal 4.
-struct Trial {
-    reading: Reading,
-    refusal: u16,
-    kind: u8,
-    number: u32,
+pub(crate) struct Trial {
+    pub reading: Reading,
+    pub refusal: u16,
+    pub kind: u8,
+    pub number: u32,
 }
 
 fn lawful(reading: Reading, kind: u8, number: u32) -> Trial {
@@ -72,7 +72,8 @@ fn codes(i: u32) -> Trial {
     }
 }
 
-fn single(i: u32) -> Trial {
+// The 19 readings.
+pub(crate) fn single(i: u32) -> Trial {
     if i < 13 {
         return percentages(i);
     }

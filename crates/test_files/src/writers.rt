@@ -28,8 +28,12 @@ fn compare_size(got: FileSize, refusal: u16, size: usize) -> Finding {
     difference(reporting::AGREES, 0)
 }
 
-fn check_size(s: Settings, size: usize) -> Finding {
-    of_call(parts::SIZING, compare_size(bale::file_size(s), 0, size))
+// The size of a file; 0 where the settings are refused.
+pub(crate) fn check_size(s: Settings, refusal: u16, size: usize) -> Finding {
+    of_call(
+        parts::SIZING,
+        compare_size(bale::file_size(s), refusal, size),
+    )
 }
 
 // What a writing answers and leaves: one that is accepted the file, and the bytes after it as they were; a refused one all.
@@ -94,7 +98,7 @@ fn check_room(call: u16, s: Settings, note: Note, levels: &[i16], file: &[u8]) -
 
 // Buffers of the file's length, of more bytes, and of one byte fewer.
 fn check_rooms(s: Settings, note: Note, levels: &[i16], file: &[u8]) -> Finding {
-    let size = check_size(s, file.len());
+    let size = check_size(s, 0, file.len());
     let exact = check_room(parts::WRITING, s, note, levels, file);
     let longer = check_room(parts::WRITING_LONGER, s, note, levels, file);
     let shorter = check_room(parts::WRITING_SHORTER, s, note, levels, file);

@@ -2,7 +2,8 @@
 use crate::decoding;
 ghost use mathlib.Core.Path.{_≡_};
 ghost use Prim.Native.Nat.{_≤_, min};
-ghost use Rattle.test_support.specs.Definitions.Comparisons.{firstDifference, firstOtherIndex};
+ghost use mir.Syntax.{w16, w32};
+ghost use Rattle.test_support.specs.Definitions.Comparisons.{firstDifference, firstOther, firstOtherIndex};
 
 // The lesser of two numbers of places.
 pub fn least(a: usize, b: usize) -> usize
@@ -13,6 +14,36 @@ pub fn least(a: usize, b: usize) -> usize
 
 pub fn bytes(a: &[u8], b: &[u8], n: usize) -> usize
     ensures { λ r. ⌜ r ≡ firstDifference n (now (a .entry)) (now (b .entry)) ⌝ }
+{
+    let m = least(n, least(a.len(), b.len()));
+    let mut i = 0;
+    while i < m {
+        if a[i] != b[i] {
+            return i;
+        }
+        i += 1;
+    }
+    m
+}
+
+// The indices of two level buffers.
+pub fn levels(a: &[i16], b: &[i16], n: usize) -> usize
+    ensures { λ r. ⌜ r ≡ firstOther w16 n (now (a .entry)) (now (b .entry)) ⌝ }
+{
+    let m = least(n, least(a.len(), b.len()));
+    let mut i = 0;
+    while i < m {
+        if a[i] != b[i] {
+            return i;
+        }
+        i += 1;
+    }
+    m
+}
+
+// The numbers of two work buffers.
+pub fn work(a: &[i32], b: &[i32], n: usize) -> usize
+    ensures { λ r. ⌜ r ≡ firstOther w32 n (now (a .entry)) (now (b .entry)) ⌝ }
 {
     let m = least(n, least(a.len(), b.len()));
     let mut i = 0;

@@ -19,6 +19,10 @@ same w a b = eqb (ofZ w a) (ofZ w b)
 unfoldable pub firstDifference : ℕ → List ℕ → List ℕ → ℕ
 firstDifference n xs ys = firstFailure (min n (min (length xs) (length ys))) (λ k. eqb (getD xs k 0) (getD ys k 0))
 
+-- the same of whole numbers
+unfoldable pub firstOther : Width → ℕ → List ℤ → List ℤ → ℕ
+firstOther w n xs ys = firstFailure (min n (min (length xs) (length ys))) (λ k. same w (getD xs k (pos 0)) (getD ys k (pos 0)))
+
 -- the same of bytes that hold indices, and of indices
 unfoldable pub firstOtherIndex : ℕ → List ℕ → List ℤ → ℕ
 firstOtherIndex n bytes levels =

@@ -26,6 +26,9 @@ with-setting-requires c κs = search needs
 answer-to-requires : tie.Need-answer-to-requires Inv-loop μ-loop
 answer-to-requires c κs = search needs
 
+bounds-to-requires : tie.Need-bounds-to-requires Inv-loop μ-loop
+bounds-to-requires c κs = search needs
+
 answered-requires : tie.Need-answered-requires Inv-loop μ-loop
 answered-requires c κs = search needs
 
@@ -52,6 +55,7 @@ each-spec =
     shared-slice-read-value
     with-setting-requires
     answer-to-requires
+    bounds-to-requires
     answered-requires
     add-i
     loop-less

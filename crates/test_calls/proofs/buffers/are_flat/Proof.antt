@@ -1,14 +1,14 @@
--- `test_calls::buffers::is_work_replaced` is safe and ends. Assumes nothing.
+-- `test_calls::buffers::are_flat` is safe and ends. Assumes nothing.
 use Prim.Native.Nat.{_-_}
 use borrow.Author.Needs.{needs}
-use Rattle.test_calls.proofs.buffers.is_work_replaced.Statement.{statement}
-use Rattle.test_calls.proofs.buffers.is_work_replaced.Tie as tie
+use Rattle.test_calls.proofs.buffers.are_flat.Statement.{statement}
+use Rattle.test_calls.proofs.buffers.are_flat.Tie as tie
 
 abbrev Inv-loop : tie.InvT-loop
-Inv-loop work n i₀ i = Unit {0}
+Inv-loop levels n top index i₀ i = Unit {0}
 
 abbrev μ-loop : tie.MeasureT-loop
-μ-loop work n i₀ i = n - i
+μ-loop levels n top index i₀ i = n - i
 
 loop-holds : tie.Need-loop-holds Inv-loop μ-loop
 loop-holds c = search needs
@@ -16,14 +16,11 @@ loop-holds c = search needs
 returns : tie.Need-returns Inv-loop μ-loop
 returns c = search needs
 
-mul-if2 : tie.Need-mul-if2 Inv-loop μ-loop
-mul-if2 c = search needs
+mul-if3 : tie.Need-mul-if3 Inv-loop μ-loop
+mul-if3 c = search needs
 
-shared-slice-copy-out-if2 : tie.Need-shared-slice-copy-out-if2 Inv-loop μ-loop
-shared-slice-copy-out-if2 c = search needs
-
-work-filler-requires : tie.Need-work-filler-requires Inv-loop μ-loop
-work-filler-requires c κs = search needs
+shared-slice-copy-out-if3 : tie.Need-shared-slice-copy-out-if3 Inv-loop μ-loop
+shared-slice-copy-out-if3 c = search needs
 
 returns-2 : tie.Need-returns-2 Inv-loop μ-loop
 returns-2 c = search needs
@@ -40,17 +37,16 @@ loop-again c = search needs
 returns-3 : tie.Need-returns-3 Inv-loop μ-loop
 returns-3 c = search needs
 
-pub is-work-replaced-spec : {M : Type 1} → statement M
-is-work-replaced-spec =
+pub are-flat-spec : {M : Type 1} → statement M
+are-flat-spec =
     tie.close
     (tie.spec
     Inv-loop
     μ-loop
     loop-holds
     returns
-    mul-if2
-    shared-slice-copy-out-if2
-    work-filler-requires
+    mul-if3
+    shared-slice-copy-out-if3
     returns-2
     add-i
     loop-less

@@ -1,0 +1,54 @@
+-- `test_calls::buffers::is_flat_work` is safe and ends. Assumes nothing.
+use Prim.Native.Nat.{_-_}
+use borrow.Author.Needs.{needs}
+use Rattle.test_calls.proofs.buffers.is_flat_work.Statement.{statement}
+use Rattle.test_calls.proofs.buffers.is_flat_work.Tie as tie
+
+abbrev Inv-loop : tie.InvT-loop
+Inv-loop work n value place other i₀ i = Unit {0}
+
+abbrev μ-loop : tie.MeasureT-loop
+μ-loop work n value place other i₀ i = n - i
+
+loop-holds : tie.Need-loop-holds Inv-loop μ-loop
+loop-holds c = search needs
+
+returns : tie.Need-returns Inv-loop μ-loop
+returns c = search needs
+
+mul-if3 : tie.Need-mul-if3 Inv-loop μ-loop
+mul-if3 c = search needs
+
+shared-slice-copy-out-if3 : tie.Need-shared-slice-copy-out-if3 Inv-loop μ-loop
+shared-slice-copy-out-if3 c = search needs
+
+returns-2 : tie.Need-returns-2 Inv-loop μ-loop
+returns-2 c = search needs
+
+add-i : tie.Need-add-i Inv-loop μ-loop
+add-i c = search needs
+
+loop-less : tie.Need-loop-less Inv-loop μ-loop
+loop-less c = search needs
+
+loop-again : tie.Need-loop-again Inv-loop μ-loop
+loop-again c = search needs
+
+returns-3 : tie.Need-returns-3 Inv-loop μ-loop
+returns-3 c = search needs
+
+pub is-flat-work-spec : {M : Type 1} → statement M
+is-flat-work-spec =
+    tie.close
+    (tie.spec
+    Inv-loop
+    μ-loop
+    loop-holds
+    returns
+    mul-if3
+    shared-slice-copy-out-if3
+    returns-2
+    add-i
+    loop-less
+    loop-again
+    returns-3)
