@@ -12,7 +12,9 @@ ghost use Rattle.test_support.specs.Definitions.Numbers.{signed16};
 
 // Reads n bytes to the start of a buffer; false where the data ends before, or the buffer, which then is not changed.
 pub fn read_exactly(fd: i32, bytes: &mut [u8], n: usize) -> bool
-    ensures { λ r. ⌜ (length (now (bytes .exit)) ≡ length (now (bytes .entry))) × (r ≡ true → n ≤ length (now (bytes .entry))) × (length (now (bytes .entry)) < n → now (bytes .exit) ≡ now (bytes .entry)) ⌝ }
+    ensures { λ r. ⌜ (length (now (bytes .exit)) ≡ length (now (bytes .entry)))
+        × (r ≡ true → n ≤ length (now (bytes .entry)))
+        × (length (now (bytes .entry)) < n → now (bytes .exit) ≡ now (bytes .entry)) ⌝ }
 {
     if bytes.len() < n {
         return false;
@@ -46,7 +48,9 @@ pub fn rest(bytes: &[u8], from: usize) -> &[u8]
 
 // Indices from bytes, as many as both hold.
 pub fn load_indices(bytes: &[u8], levels: &mut [i16])
-    ensures { λ _. ⌜ now (levels .exit) ≡ splice 0 (tabulate (min (length (now (bytes .entry)) / 2) (length (now (levels .entry)))) (λ k. signed16 (now (bytes .entry)) (2 * k))) (now (levels .entry)) ⌝ }
+    ensures { λ _. ⌜ now (levels .exit) ≡
+        splice 0 (tabulate (min (length (now (bytes .entry)) / 2) (length (now (levels .entry))))
+        (λ k. signed16 (now (bytes .entry)) (2 * k))) (now (levels .entry)) ⌝ }
 {
     let n = comparing::least(bytes.len() / 2, levels.len());
     let mut i = 0;

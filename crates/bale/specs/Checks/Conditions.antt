@@ -31,4 +31,5 @@ writingRules s note levels room =
 
 pub record WriterConditions (s : Settings) : Type 0 where
   pub of-size : Given (settingsRules s) (sizeAnswer s .refusal)
-  pub of-writing : (note : Note) (levels : List ℤ) (file : List ℕ) → Given (writingRules s note levels (length file)) (writeFile s note levels file .answer .refusal)
+  pub of-writing : (note : Note) (levels : List ℤ) (file : List ℕ)
+      → Given (writingRules s note levels (length file)) (writeFile s note levels file .answer .refusal)

@@ -21,7 +21,8 @@ pub record HoldsNothing (bale : Bale) : Type 0 where
 pub record RefusedFilesHoldNothing : Type 0 where
   pub of-size : (s : Settings) → Refused (sizeAnswer s .refusal) (sizeAnswer s .size ≡ 0)
   pub of-writing : (s : Settings) (note : Note) (levels : List ℤ) (file : List ℕ)
-      → Refused (writeFile s note levels file .answer .refusal) ((writeFile s note levels file .answer .size ≡ 0) × (writeFile s note levels file .file ≡ file))
+      → Refused (writeFile s note levels file .answer .refusal)
+      ((writeFile s note levels file .answer .size ≡ 0) × (writeFile s note levels file .file ≡ file))
   pub of-checking : (bytes : List ℕ) → Refused (checkFile bytes .refusal) (HoldsNothing (checkFile bytes))
   pub of-reading : (bytes : List ℕ) (levels : List ℤ)
       → Refused (readFile bytes levels .answer .refusal) (HoldsNothing (readFile bytes levels .answer) × (readFile bytes levels .levels ≡ levels))

@@ -18,7 +18,8 @@ use Rattle.bale.specs.Definitions.Calls.{checkFile, readFile}
 pub record WorkedFile (s : Settings) (note : Note) (levels : List ℤ) (bytes : List ℕ) : Type 0 where
   pub written : fileOf s note levels ≡ bytes
   pub checked : checkFile bytes ≡ record { refusal = 0; settings = s; note = note }
-  pub read : (lent : List ℤ) → length lent ≡ total s → readFile bytes lent ≡ record { answer = record { refusal = 0; settings = s; note = note }; levels = levels }
+  pub read : (lent : List ℤ) → length lent ≡ total s
+      → readFile bytes lent ≡ record { answer = record { refusal = 0; settings = s; note = note }; levels = levels }
 
 -- ---- piece A with readings 6.5 % (bits 40D00000) and not fitted: 58 bytes
 

@@ -32,4 +32,5 @@ pub record Shows (first : List ℕ) (note : Note) (within : ℕ) (bytes : List �
 abbrev pub Archive : Type 0
 Archive =
     (f : Filing) (copies : List Copy) → filingRefusal f ≡ 0
-    → Shows (f .picture) (f .note) (boundAt (f .settings) 0 + copiesSum (writtenBytes (firstWritten f)) copies) (fileAfter (writtenBytes (firstWritten f)) copies)
+    → Shows (f .picture) (f .note) (boundAt (f .settings) 0 + copiesSum (writtenBytes (firstWritten f)) copies)
+    (fileAfter (writtenBytes (firstWritten f)) copies)
