@@ -20,27 +20,37 @@ const KINDS: [u8; 2] = [201, 202];
 
 const NUMBERS: [u32; 2] = [4000000001, 4000000002];
 
+fn answer_with(
+    answer: u16,
+    shape: [u16; 4],
+    bins: [u16; 7],
+    kinds: [u8; 2],
+    numbers: [u32; 2],
+) -> Handed {
+    Handed {
+        answer: answer,
+        shape: shape,
+        bins: bins,
+        kinds: kinds,
+        numbers: numbers,
+    }
+}
+
 // A refusal leaves all as it was.
 pub(crate) fn refused(refusal: u16) -> Handed {
-    Handed {
-        answer: refusal,
-        shape: SHAPE,
-        bins: BINS,
-        kinds: KINDS,
-        numbers: NUMBERS,
-    }
+    answer_with(refusal, SHAPE, BINS, KINDS, NUMBERS)
 }
 
 // C, R, N and k in this order, the bins, slot 0 first, and the readings, before the drier first.
 pub(crate) fn accepted(s: Settings, r: Readings) -> Handed {
     let bins = s.bins;
-    Handed {
-        answer: 0,
-        shape: [s.columns, s.rows, s.depth, s.kernel],
-        bins: bins,
-        kinds: [r.drier_kind, r.press_kind],
-        numbers: [r.drier_number, r.press_number],
-    }
+    answer_with(
+        0,
+        [s.columns, s.rows, s.depth, s.kernel],
+        bins,
+        [r.drier_kind, r.press_kind],
+        [r.drier_number, r.press_number],
+    )
 }
 
 pub(crate) fn by_checking(file: &[u8]) -> Handed {
@@ -55,13 +65,7 @@ pub(crate) fn by_checking(file: &[u8]) -> Handed {
         &mut kinds,
         &mut numbers,
     );
-    Handed {
-        answer: answer,
-        shape: shape,
-        bins: bins,
-        kinds: kinds,
-        numbers: numbers,
-    }
+    answer_with(answer, shape, bins, kinds, numbers)
 }
 
 pub(crate) fn by_reading(file: &[u8], levels: &mut [i16]) -> Handed {
@@ -77,13 +81,7 @@ pub(crate) fn by_reading(file: &[u8], levels: &mut [i16]) -> Handed {
         &mut kinds,
         &mut numbers,
     );
-    Handed {
-        answer: answer,
-        shape: shape,
-        bins: bins,
-        kinds: kinds,
-        numbers: numbers,
-    }
+    answer_with(answer, shape, bins, kinds, numbers)
 }
 
 fn are_shapes_equal(a: [u16; 4], b: [u16; 4]) -> bool {
