@@ -3,7 +3,7 @@
 use mathlib.Core.Path.{_≡_, refl, sym, ap, _∙_, subst}
 use mathlib.Core.List.{List, [], _∷_, _++_}
 use Prim.Native.Nat.{ℕ, zero, suc, _+_, _*_, _≤_}
-use mathlib.Core.Logic.{⊎-elim}
+use mathlib.Core.Logic.{⊎-elim, _≢_}
 use native.Mathlib.Nat.{le-refl, add-zero}
 use native.Mathlib.Decide.{ℕ-discrete}
 use native.Mathlib.Omega.{arith}
@@ -17,9 +17,9 @@ use Rattle.pyramid.specs.Definitions.Sizes.{total}
 use Rattle.pyramid.specs.Definitions.Bound.{boundAt}
 use Rattle.pyramid.specs.Definitions.Buffers.{Bytes}
 use Rattle.pyramid.specs.Definitions.Calls.{leaves, coding, rebuilding}
-use Rattle.pyramid.proofs.Refusals.{first-none, leaves-new, leaves-kept}
-use Rattle.pyramid.proofs.CodedLevels.{rebuilding-accepts}
-use Rattle.pyramid.proofs.Accuracy.{rebuilt-near, rebuilt-bytes}
+use Rattle.pyramid.proofs.Refusals.{first-nil, first-none, first-pass, leaves-new, leaves-kept}
+use Rattle.pyramid.proofs.CodedLevels.{coding-accepts, coded-pixels, rebuilding-accepts}
+use Rattle.pyramid.proofs.Accuracy.{rebuilt-near, rebuilt-size, rebuilt-bytes}
 use Rattle.bale.specs.declared.Note.{Note}
 use Rattle.bale.specs.declared.Bale.{Bale}
 use Rattle.bale.specs.Definitions.Readings.{HeldReading, noteOk}
@@ -29,6 +29,7 @@ use Rattle.bale.specs.Definitions.Calls.{WriteOutcome, ReadOutcome, writ
 use Rattle.bale.specs.Definitions.Copies.{Filing, Copy, writtenBytes, firstCoded, firstWritten, filingRefusal, source, shown, recoded, rewritten, copyRefusal, copied, copyBound, fileAfter, copiesSum}
 use Rattle.bale.specs.Theorems.RoundTrips.{Held, WrittenIsRead}
 use Rattle.bale.specs.Theorems.Archive.{ShownWithin, Shows, Archive}
+use Rattle.bale.specs.Checks.CopiesMade.{Suits, CopyMade, CopiesMade}
 use Rattle.bale.proofs.AcceptedFiles.{AcceptedWriting, accepted-writing, accepted-file}
 use Rattle.bale.proofs.FileLengths.{length-file}
 use Rattle.bale.proofs.Answers.{writing-refusal, writing-is, reading-is}
@@ -177,6 +178,66 @@ module _ (first : List ℕ) (note : Note) (noted : T (noteOk note)) (drier : Hel
         go (no refused) =
             rw (leaves-kept _ (writtenBytes (rewritten bytes c)) bytes refused, leaves-kept _ (boundAt (c .settings) 0) 0 refused, add-zero within) h
 
+  module _ {within : ℕ} {bytes : List ℕ} (h : Holds within bytes) (c : Copy) where
+    copy-refused : copyRefusal bytes c ≢ 0 → (copied bytes c ≡ bytes) × (copyBound bytes c ≡ 0)
+    unfolding copied copyBound
+    copy-refused refused = (leaves-kept _ _ _ refused, leaves-kept _ _ _ refused)
+
+    copy-accepted : copyRefusal bytes c ≡ 0 → (checkFile (copied bytes c) .settings ≡ c .settings) × (copyBound bytes c ≡ boundAt (c .settings) 0)
+    unfolding copyRefusal copied copyBound accepted-copy
+    copy-accepted e =
+        let (e₁, r₁) = first-none _ _ e in
+        let (e₂, r₂) = first-none _ _ r₁ in
+        let (e₃, r₃) = first-none _ _ r₂ in (
+          ap (λ (b : List ℕ). checkFile b .settings) (leaves-new _ _ _ e) ∙ ap (λ (b : Bale). b .settings) (checked (accepted-copy h c e₁ e₂ e₃ (first-none _ _ r₃ .0))),
+          leaves-new _ _ _ e,
+        )
+
+    -- the four calls, one after the other
+    module _ (suits : Suits (h .settings) c) where
+      taken : source bytes c ≡ whole h
+      taken = read-is h (c .read) (suits .read)
+
+      shows-it : rebuilding (h .settings) (m h) (c .picture) (c .work) .answer ≡ 0
+      shows-it = rebuilds h (c .read) (c .picture) (c .work) (suits .read) (suits .picture) (suits .work)
+
+      shown-ok : shown bytes c .answer ≡ 0
+      shown-ok = subst (λ (r : ReadOutcome). rebuilding (r .answer .settings) (r .levels) (c .picture) (c .work) .answer ≡ 0) (sym taken) shows-it
+
+      shown-long : length (shown bytes c .picture) ≡ c .settings .rows * c .settings .columns
+      shown-long =
+          subst (λ (r : ReadOutcome). length (rebuilding (r .answer .settings) (r .levels) (c .picture) (c .work) .picture) ≡ length (h .picture)) (sym taken)
+          (rebuilt-size (h .settings) (h .picture) (h .levels) (h .work) (c .picture) (c .work) (h .coded) shows-it)
+          ∙ coded-pixels (h .settings) (h .picture) (h .levels) (h .work) (h .legal) (h .coded) ∙ suits .pixels
+
+      shown-legal : Bytes (shown bytes c .picture)
+      shown-legal =
+          subst (λ (r : ReadOutcome). Bytes (rebuilding (r .answer .settings) (r .levels) (c .picture) (c .work) .picture)) (sym taken)
+          (rebuilt-bytes (h .settings) (h .picture) (h .levels) (h .work) (c .picture) (c .work) (h .coded) shows-it)
+
+      recoded-ok : recoded bytes c .answer ≡ 0
+      recoded-ok =
+          coding-accepts (c .settings) (shown bytes c .picture) (c .levels) (c .codingWork) (suits .lawful)
+          (record { picture-is = shown-long; levels-is = suits .levels; work-least = suits .codingWork })
+
+      rewritten-ok : rewritten bytes c .answer .refusal ≡ 0
+      rewritten-ok =
+          writing-refusal (c .settings) (source bytes c .answer .note) (recoded bytes c .levels) (c .file)
+          ∙ coded-then-written (c .settings) (source bytes c .answer .note) (shown bytes c .picture) (c .levels) (c .codingWork) (length (c .file)) shown-legal recoded-ok
+          (subst (λ (r : ReadOutcome). T (noteOk (r .answer .note))) (sym taken) noted) (suits .file)
+
+      copy-made : copyRefusal bytes c ≡ 0
+      unfolding copyRefusal
+      copy-made =
+          first-pass _ (ap (λ (r : ReadOutcome). r .answer .refusal) taken) (first-pass _ shown-ok (first-pass _ recoded-ok (first-pass _ rewritten-ok first-nil)))
+
+    made : CopyMade bytes c
+    made = record {
+      refused = copy-refused;
+      accepted = copy-accepted;
+      made = λ suits. copy-made (subst (λ (b : Bale). Suits (b .settings) c) (checked h) suits);
+    }
+
   after : (copies : List Copy) {within : ℕ} {bytes : List ℕ} → Holds within bytes → Holds (within + copiesSum bytes copies) (fileAfter bytes copies)
   unfolding fileAfter copiesSum
   after [] {within} {bytes} h = subst (λ (n : ℕ). Holds n bytes) (sym (add-zero within)) h
@@ -184,22 +245,32 @@ module _ (first : List ℕ) (note : Note) (noted : T (noteOk note)) (drier : Hel
       let e : within + copyBound bytes c + copiesSum (copied bytes c) later ≡ within + (copyBound bytes c + copiesSum (copied bytes c) later) = omega arith in
       subst (λ (n : ℕ). Holds n (fileAfter (copied bytes c) later)) e (after later (step h c))
 
+-- the first file, which holds the first picture
+module _ (f : Filing) (ok : filingRefusal f ≡ 0) where
+  firstly : (firstCoded f .answer ≡ 0) × (firstWritten f .answer .refusal ≡ 0)
+  unfolding filingRefusal
+  firstly = let (coded, r) = first-none _ _ ok in (coded, first-none _ _ r .0)
+
+  lawful-note : T (noteOk (f .note))
+  lawful-note = written-accepted (f .settings) (f .note) (firstCoded f .levels) (f .file) (firstly .1) .noted
+
+  first-holds : Holds (f .picture) (f .note) lawful-note (f .drier) (f .press) (boundAt (f .settings) 0) (writtenBytes (firstWritten f))
+  first-holds = record {
+    settings = f .settings;
+    picture = f .picture;
+    levels = f .levels;
+    work = f .work;
+    legal = f .bytes;
+    seven = f .seven;
+    coded = firstly .0;
+    is = written-bytes (f .settings) (f .note) (firstCoded f .levels) (f .file) (firstly .1);
+    near = λ p. omega arith;
+  }
+
 pub archive : Archive
-unfolding filingRefusal
 archive f copies ok =
-    let (coded, r) = first-none _ _ ok in
-    let written = first-none _ _ r .0 in
-    let a = written-accepted (f .settings) (f .note) (firstCoded f .levels) (f .file) written in
-    shows (f .picture) (f .note) (a .noted) (f .drier) (f .press)
-    (after (f .picture) (f .note) (a .noted) (f .drier) (f .press) copies
-    (record {
-      settings = f .settings;
-      picture = f .picture;
-      levels = f .levels;
-      work = f .work;
-      legal = f .bytes;
-      seven = f .seven;
-      coded = coded;
-      is = written-bytes (f .settings) (f .note) (firstCoded f .levels) (f .file) written;
-      near = λ p. omega arith;
-    }))
+    shows (f .picture) (f .note) (lawful-note f ok) (f .drier) (f .press) (after (f .picture) (f .note) (lawful-note f ok) (f .drier) (f .press) copies (first-holds f ok))
+
+pub copies-made : CopiesMade
+copies-made f copies c ok =
+    made (f .picture) (f .note) (lawful-note f ok) (f .drier) (f .press) (after (f .picture) (f .note) (lawful-note f ok) (f .drier) (f .press) copies (first-holds f ok)) c

@@ -1,4 +1,5 @@
 pub mod WorkedFiles
+pub mod CopiesMade
 pub mod Totality
 pub mod Numbers
 pub mod Conditions

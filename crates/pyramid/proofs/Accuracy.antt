@@ -141,6 +141,9 @@ module _ (s : Settings) (picture : List ℕ) (levels work : List ℤ) (target : 
   pub rebuilt-near : Bytes picture → (q : ℕ) → distance (getD (rebuilding s (coding s picture levels work .levels) target targetWork .picture) q 0) (getD picture q 0) ≤ boundAt s 0
   rebuilt-near = moved picture generation accepted
 
+  pub rebuilt-size : length (rebuilding s (coding s picture levels work .levels) target targetWork .picture) ≡ length picture
+  rebuilt-size = size picture generation accepted
+
   pub rebuilt-bytes : Bytes (rebuilding s (coding s picture levels work .levels) target targetWork .picture)
   rebuilt-bytes = still-bytes picture generation accepted
 

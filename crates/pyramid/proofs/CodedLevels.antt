@@ -16,8 +16,8 @@ use Rattle.pyramid.specs.Definitions.Buffers.{Bytes, pixels, allLevels, 
 use Rattle.pyramid.specs.Definitions.Refusals.{unless, first, limit, settingsRefusal, buffersRefusal, valuesOk, codingRefusal}
 use Rattle.pyramid.specs.Definitions.Calls.{coding, rebuilding}
 use Rattle.pyramid.specs.Inner.Ranges.{CodingRanges}
-use Rattle.pyramid.specs.Inner.Accepted.{Accepted}
-use Rattle.pyramid.proofs.Refusals.{first-none, accepted-coding, buffers-accepted, rebuilding-lengths, leaves-new}
+use Rattle.pyramid.specs.Inner.Accepted.{Sized, Accepted}
+use Rattle.pyramid.proofs.Refusals.{first-nil, first-none, first-pass, accepted-coding, buffers-accepted, rebuilding-lengths, leaves-new}
 use Rattle.pyramid.proofs.Buffers.{all-at, length-all, read-stack, all-stack}
 use Rattle.pyramid.proofs.Ranges.{coding-ranges}
 
@@ -29,6 +29,12 @@ not-eleven true true false e = omega arith
 not-eleven true false c e = omega arith
 not-eleven false b c e = omega arith
 
+-- lawful settings and buffers of right lengths are accepted
+pub coding-accepts : (s : Settings) (picture : List ℕ) (levels work : List ℤ) → settingsRefusal s ≡ 0 → Sized s (length picture) (length levels) (length work)
+    → coding s picture levels work .answer ≡ 0
+unfolding coding codingRefusal
+coding-accepts s picture levels work e z = first-pass _ e (first-pass _ (buffers-accepted s z) first-nil)
+
 module _ (s : Settings) (picture : List ℕ) (levels work : List ℤ) (bytes : Bytes picture) (ok : coding s picture levels work .answer ≡ 0) where
   abbrev left : List ℤ
   left = coding s picture levels work .levels
@@ -36,6 +42,9 @@ module _ (s : Settings) (picture : List ℕ) (levels work : List ℤ) (bytes : B
   call : Accepted s picture levels work
   unfolding coding
   call = accepted-coding s picture levels work ok
+
+  pub coded-pixels : length picture ≡ s .rows * s .columns
+  coded-pixels = call .sized .picture-is
 
   pub coded-settings : settingsRefusal s ≡ 0
   unfolding coding codingRefusal
