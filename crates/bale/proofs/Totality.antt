@@ -1,5 +1,5 @@
 -- Reading is total: each rule gives its own number or 0, so the first that is not 0 is one of them. No rule but the one of the level
--- buffer's length gives 6. Assumes nothing.
+-- buffer's length gives 6, and no rule but the shape's own gives a number of the shape. Assumes nothing.
 use mathlib.Core.Path.{_≡_, sym, _∙_}
 use mathlib.Core.Logic.{_↔_, _≢_, _⊎_, inl, inr}
 use mathlib.Core.List.{List, [], _∷_}
@@ -11,28 +11,26 @@ use lib.ListN.{getD}
 use Rattle.pyramid.specs.declared.Settings.{Settings}
 use Rattle.pyramid.specs.Definitions.Sizes.{nodesAt, total}
 use Rattle.pyramid.specs.Definitions.Refusals.{shapeRefusal}
-use Rattle.pyramid.specs.Checks.Numbers.{Answers}
-use Rattle.pyramid.proofs.Refusals.{first-skip, first-between, answers-fails, unless-holds, unless-more, unless-elim, first-elim, last-elim, shape-elim}
-use Rattle.pyramid.proofs.Rules.{one-between}
+use Rattle.pyramid.specs.Checks.Numbers.{Answers, shapeNumbers}
+use Rattle.pyramid.proofs.Refusals.{first-skip, first-between, answers-fails, unless-holds, unless-more, unless-elim, first-elim, last-elim}
+use Rattle.pyramid.proofs.Rules.{one-between, one-before, one-after, answered}
+use Rattle.pyramid.proofs.Conditions.{shapeTests, shape-looks}
 use Rattle.bale.specs.Definitions.Words.{u32At}
 use Rattle.bale.specs.Definitions.Readings.{probeWhere, decode}
 use Rattle.bale.specs.Definitions.Sections.{sectionRefusal}
 use Rattle.bale.specs.Definitions.Reader.{settingsIn, probeAt, shapeSectionRefusal, binsSectionRefusal, readingsSectionRefusal, levelSectionRefusal, levelSectionsRefusal, bodyRefusal}
 use Rattle.bale.specs.Definitions.Calls.{readRefusal, checkRefusal}
-use Rattle.bale.specs.Checks.Numbers.{checkNumbers, readNumbers}
+use Rattle.bale.specs.Checks.Numbers.{sectionNumbers, checkNumbers, readNumbers}
 use Rattle.bale.specs.Checks.Totality.{ReadingIsTotal}
 use Rattle.bale.proofs.Sections.{eqb-of}
 
 module _ (bytes : List ℕ) where
   abbrev P : ℕ → Type 0
-  P n = Answers checkNumbers n
+  P n = Answers sectionNumbers n
 
   section : (at count size : ℕ) → P (sectionRefusal bytes at count size)
   unfolding sectionRefusal
   section at count size = first-elim P tt _ _ (unless-elim P tt _ 9 tt) (first-elim P tt _ _ (unless-elim P tt _ 10 tt) (last-elim P tt _ (unless-elim P tt _ 9 tt)))
-
-  shape : (s : Settings) → P (shapeRefusal s)
-  shape s = shape-elim P tt s tt tt
 
   decoded : (kind n : ℕ) → P (decode kind n .refusal)
   unfolding decode probeWhere
@@ -44,10 +42,6 @@ module _ (bytes : List ℕ) where
   probe : (at : ℕ) → P (probeAt bytes at .refusal)
   unfolding probeAt
   probe at = decoded (getD bytes at 0) (u32At bytes (at + 1))
-
-  shape-section : P (shapeSectionRefusal bytes)
-  unfolding shapeSectionRefusal
-  shape-section = first-elim P tt _ _ (section 0 4 2) (last-elim P tt _ (shape (settingsIn bytes)))
 
   bins-section : P (binsSectionRefusal bytes)
   unfolding binsSectionRefusal
@@ -70,9 +64,24 @@ module _ (bytes : List ℕ) where
   unfolding bodyRefusal
   body = first-elim P tt _ _ bins-section (first-elim P tt _ _ (readings-section _) (last-elim P tt _ (levels _ _ _)))
 
-  checked : P (checkRefusal bytes)
+  -- ---- with the shape's own numbers
+
+  abbrev Q : ℕ → Type 0
+  Q n = Answers checkNumbers n
+
+  shape : (s : Settings) → Q (shapeRefusal s)
+  shape s = one-before (0 ∷ shapeNumbers) sectionNumbers (shapeRefusal s) (answered (shapeTests s) (shape-looks s))
+
+  later : (n : ℕ) → P n → Q n
+  later n h = one-after 0 shapeNumbers sectionNumbers n h
+
+  shape-section : Q (shapeSectionRefusal bytes)
+  unfolding shapeSectionRefusal
+  shape-section = first-elim Q tt _ _ (later (sectionRefusal bytes 0 4 2) (section 0 4 2)) (last-elim Q tt _ (shape (settingsIn bytes)))
+
+  checked : Q (checkRefusal bytes)
   unfolding checkRefusal
-  checked = first-elim P tt _ _ shape-section (last-elim P tt _ body)
+  checked = first-elim Q tt _ _ shape-section (last-elim Q tt _ (later (bodyRefusal bytes) body))
 
   -- ---- with a level buffer
 
@@ -87,13 +96,13 @@ module _ (bytes : List ℕ) where
       cases (inl e) = rw e tt
       cases (inr e) = rw e (one-between 0 6 (checkRefusal bytes) checkNumbers checked)
 
-  not-six : {n : ℕ} → P n → n ≢ 6
+  not-six : {n : ℕ} → Q n → n ≢ 6
   not-six h e = rw e at h
 
   wrong-places : (places : ℕ) → readRefusal bytes places ≡ 6 → (shapeSectionRefusal bytes ≡ 0) × (places ≢ total (settingsIn bytes))
   unfolding readRefusal
   wrong-places places e =
-      let (shape, own) = first-between (shapeSectionRefusal bytes) _ (bodyRefusal bytes ∷ []) (not-six shape-section) (not-six (last-elim P tt _ body)) e in
+      let (shape, own) = first-between (shapeSectionRefusal bytes) _ (bodyRefusal bytes ∷ []) (not-six shape-section) (not-six (last-elim Q tt _ (later (bodyRefusal bytes) body))) e in
       (shape, λ same. omega (arith, own, unless-holds (eqb places (total (settingsIn bytes))) 6 (eqb-of same)))
 
   six : (places : ℕ) → (readRefusal bytes places ≡ 6) ↔ ((shapeSectionRefusal bytes ≡ 0) × (places ≢ total (settingsIn bytes)))

@@ -139,10 +139,6 @@ module _ (P : ℕ → Type 0) (none : P 0) where
   pub last-elim : (x : ℕ) → P x → P (first (x ∷ []))
   last-elim x h = rw (first-last x) h
 
-  pub shape-elim : (s : Settings) → P 1 → P 2 → P (shapeRefusal s)
-  unfolding shapeRefusal
-  shape-elim s one two = first-elim _ _ (unless-elim (sizeOk s) 1 one) (last-elim _ (unless-elim (kernelOk (s .kernel)) 2 two))
-
 -- ---- the calls
 
 module _ (s : Settings) where

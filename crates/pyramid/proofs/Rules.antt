@@ -60,6 +60,19 @@ one-between k m n ns h = cases (eqb n k) h
     cases true t = tt
     cases false t = one-later m n ns t
 
+-- numbers more, behind some or before them
+pub one-before : (ms ns : List ℕ) (n : ℕ) → T (oneOf ms n) → T (oneOf (ms ++ ns) n)
+one-before [] ns n h = absurd h
+one-before (m ∷ ms) ns n h = cases (eqb n m) h (λ t. one-before ms ns n t)
+  where
+    cases : (b : Bool) → T (cond b true (oneOf ms n)) → (T (oneOf ms n) → T (oneOf (ms ++ ns) n)) → T (cond b true (oneOf (ms ++ ns) n))
+    cases true t later = tt
+    cases false t later = later t
+
+pub one-after : (k : ℕ) (ms ns : List ℕ) (n : ℕ) → T (oneOf (k ∷ ns) n) → T (oneOf (k ∷ (ms ++ ns)) n)
+one-after k [] ns n h = h
+one-after k (m ∷ ms) ns n h = one-between k m n (ms ++ ns) (one-after k ms ns n h)
+
 -- ---- the answer is 0 or a rule's number
 
 answer-one : (ts : List Tested) → T (oneOf (0 ∷ numbers ts) (first (refusals ts)))

@@ -1,20 +1,24 @@
 -- Which numbers each call can answer (document 01, "Who can cause which refusal"), a row for each call. Assumes nothing.
-use mathlib.Core.List.{List, [], _∷_}
+use mathlib.Core.List.{List, [], _∷_, _++_}
 use Prim.Native.Nat.{ℕ}
 use lib.IntN.{ℤ}
 use Rattle.pyramid.specs.declared.Settings.{Settings}
-use Rattle.pyramid.specs.Checks.Numbers.{Answers, settingsNumbers}
+use Rattle.pyramid.specs.Checks.Numbers.{Answers, shapeNumbers, settingsNumbers}
 use Rattle.bale.specs.declared.Reading.{Reading}
 use Rattle.bale.specs.declared.Note.{Note}
 use Rattle.bale.specs.Definitions.Readings.{codeOf, decode}
 use Rattle.bale.specs.Definitions.Calls.{sizeAnswer, writeFile, checkFile, readFile}
 
 abbrev pub writingNumbers : List ℕ
-writingNumbers = 1 ∷ 2 ∷ 3 ∷ 4 ∷ 6 ∷ 8 ∷ 11 ∷ []
+writingNumbers = settingsNumbers ++ (4 ∷ 6 ∷ 8 ∷ 11 ∷ [])
+
+-- the counts of any section and the items of those after the shape
+abbrev pub sectionNumbers : List ℕ
+sectionNumbers = 3 ∷ 4 ∷ 9 ∷ 10 ∷ 11 ∷ 12 ∷ []
 
 -- the reader that is lent no level buffer; lent one, it has 6 too
 abbrev pub checkNumbers : List ℕ
-checkNumbers = 1 ∷ 2 ∷ 3 ∷ 4 ∷ 9 ∷ 10 ∷ 11 ∷ 12 ∷ []
+checkNumbers = shapeNumbers ++ sectionNumbers
 
 abbrev pub readNumbers : List ℕ
 readNumbers = 6 ∷ checkNumbers

@@ -23,18 +23,18 @@ abbrev pub shapeNumbers : List ℕ
 shapeNumbers = 1 ∷ 2 ∷ []
 
 abbrev pub settingsNumbers : List ℕ
-settingsNumbers = 1 ∷ 2 ∷ 3 ∷ []
+settingsNumbers = shapeNumbers ++ (3 ∷ [])
 
 -- coding; rebuilding looks for these and then 11
 abbrev pub codingNumbers : List ℕ
-codingNumbers = 1 ∷ 2 ∷ 3 ∷ 5 ∷ 6 ∷ 7 ∷ []
+codingNumbers = settingsNumbers ++ (5 ∷ 6 ∷ 7 ∷ [])
 
 abbrev pub rebuildingNumbers : List ℕ
 rebuildingNumbers = codingNumbers ++ (11 ∷ [])
 
 -- a level buffer alone
 abbrev pub levelsNumbers : List ℕ
-levelsNumbers = 1 ∷ 2 ∷ 3 ∷ 6 ∷ 11 ∷ []
+levelsNumbers = settingsNumbers ++ (6 ∷ 11 ∷ [])
 
 pub record PyramidNumbers (s : Settings) : Type 0 where
   pub of-coding : (picture : List ℕ) (levels work : List ℤ) → Answers codingNumbers (coding s picture levels work .answer)
