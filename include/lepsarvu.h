@@ -7,7 +7,7 @@
  *
  * Every function answers 0, or a refusal; a refused call has changed nothing that it was lent.
  *
- *    1  size, depth or divisibility breaks the settings' rules
+ *    1  columns or rows are outside 2 to 129
  *    2  the kernel is not 3 to 6
  *    3  a bin slot breaks its rule
  *    4  a reading breaks its rule, or its kind is above 2
@@ -19,6 +19,11 @@
  *   10  a count is not the one that it must be
  *   11  an index times its bin is outside -4,096 to 4,096
  *   12  bytes follow the last section
+ *   13  the depth is above 6
+ *   14  2 to the depth does not divide columns - 1
+ *   15  2 to the depth does not divide rows - 1
+ *
+ * Where several apply, the first in the order that is said beside the function is the answer.
  *
  * Settings: 2 to 129 columns and rows; a depth of 0 to 6 such that 2 to the depth divides columns - 1 and rows - 1; a
  * kernel of 3 to 6; and seven bins, slot l for level l: 1 to 255 in slots 0 to the depth, 0 in the slots above it.
@@ -47,37 +52,39 @@ enum {
 
 /* Codes a picture, row after row. Leaves the indices of all levels, the deepest first, in levels, and the averages of
  * all levels, in the same order, in the first places of work; places of work after them keep their contents.
- * Refused: 1, 2, 3, 5, 6, 7. */
+ * Refused: 1, 13, 14, 15, 2, 3, 5, 6, 7. */
 uint16_t lepsarvu_coding(uint16_t columns, uint16_t rows, uint16_t depth, uint16_t kernel, const uint16_t bins[7],
                          const uint8_t *picture, size_t picture_length, int16_t *levels, size_t levels_length,
                          int32_t *work, size_t work_length);
 
 /* Rebuilds a picture from the indices of all levels. Leaves the picture, clamped to 0 to 255, in picture, and the
  * unclamped values of all levels in the first places of work; places of work after them keep their contents.
- * Refused: 1, 2, 3, 5, 6, 7, 11. */
+ * Refused: 1, 13, 14, 15, 2, 3, 5, 6, 7, 11. */
 uint16_t lepsarvu_rebuilding(uint16_t columns, uint16_t rows, uint16_t depth, uint16_t kernel, const uint16_t bins[7],
                              const int16_t *levels, size_t levels_length, uint8_t *picture, size_t picture_length,
                              int32_t *work, size_t work_length);
 
 /* Leaves in bounds, slot l for level l, how far a rebuilt value of a level can lie from its average; 0 in the slots
  * above the depth. Slot 0 is how many grey levels a shown pixel can differ from the picture that was coded.
- * Refused: 1, 2, 3. */
+ * Refused: 1, 13, 14, 15, 2, 3. */
 uint16_t lepsarvu_level_bounds(uint16_t columns, uint16_t rows, uint16_t depth, uint16_t kernel,
                                const uint16_t bins[7], uint16_t bounds[7]);
 
 /* Leaves in depth the deepest depth that a size allows. Refused: 1. */
 uint16_t lepsarvu_deepest_depth(uint16_t columns, uint16_t rows, uint16_t *depth);
 
-/* Leaves in nodes the number of nodes of all levels: the length of the level buffer. Refused: 1, 2, 3. */
+/* Leaves in nodes the number of nodes of all levels: the length of the level buffer.
+ * Refused: 1, 13, 14, 15, 2, 3. */
 uint16_t lepsarvu_total_nodes(uint16_t columns, uint16_t rows, uint16_t depth, uint16_t kernel, const uint16_t bins[7],
                               uint16_t *nodes);
 
-/* Leaves in size the bytes of a bale file of these settings. Refused: 1, 2, 3. */
+/* Leaves in size the bytes of a bale file of these settings. Refused: 1, 13, 14, 15, 2, 3. */
 uint16_t lepsarvu_file_size(uint16_t columns, uint16_t rows, uint16_t depth, uint16_t kernel, const uint16_t bins[7],
                             size_t *size);
 
 /* Writes a bale file of settings, two readings and the indices of all levels at the start of file, and leaves its
- * bytes in size; bytes of file after it keep their contents. Refused: 1, 2, 3, 4, 6, 8, 11. */
+ * bytes in size; bytes of file after it keep their contents.
+ * Refused: 1, 13, 14, 15, 2, 3, 4, 6, 8, 11. */
 uint16_t lepsarvu_write_file(uint16_t columns, uint16_t rows, uint16_t depth, uint16_t kernel, const uint16_t bins[7],
                              uint8_t drier_kind, uint32_t drier_number, uint8_t press_kind, uint32_t press_number,
                              const int16_t *levels, size_t levels_length, uint8_t *file, size_t file_length,
@@ -85,8 +92,8 @@ uint16_t lepsarvu_write_file(uint16_t columns, uint16_t rows, uint16_t depth, ui
 
 /* Reads a bale file. Leaves its columns, rows, depth and kernel in shape, its bins in bins, the kinds and numbers of its
  * readings, before the drier and at the press, in kinds and numbers, and the indices of all levels in levels.
- * Refused, in file order: 9, 10, 9, 1, 2 of the shape, then 6; 9, 10, 9, 3 of the bins; 9, 10, 9, 4 of the readings;
- * 9, 10, 9, 11 of each level; 12. */
+ * Refused, in file order: 9, 10, 9, 1, 13, 14, 15, 2 of the shape, then 6; 9, 10, 9, 3 of the bins; 9, 10, 9, 4 of
+ * the readings; 9, 10, 9, 11 of each level; 12. */
 uint16_t lepsarvu_read_file(const uint8_t *file, size_t file_length, int16_t *levels, size_t levels_length,
                             uint16_t shape[4], uint16_t bins[7], uint8_t kinds[2], uint32_t numbers[2]);
 

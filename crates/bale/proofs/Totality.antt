@@ -1,6 +1,6 @@
 -- Reading is total: each rule gives its own number or 0, so the first that is not 0 is one of them. No rule but the one of the level
 -- buffer's length gives 6, and no rule but the shape's own gives a number of the shape. Assumes nothing.
-use mathlib.Core.Path.{_≡_, sym, _∙_}
+use mathlib.Core.Path.{_≡_, sym, _∙_, subst}
 use mathlib.Core.Logic.{_↔_, _≢_, _⊎_, inl, inr}
 use mathlib.Core.List.{List, [], _∷_}
 use Prim.Native.Nat.{ℕ, zero, suc, _+_, _*_}
@@ -10,10 +10,10 @@ use lib.Dec.{T, eqb}
 use lib.ListN.{getD}
 use Rattle.pyramid.specs.declared.Settings.{Settings}
 use Rattle.pyramid.specs.Definitions.Sizes.{nodesAt, total}
-use Rattle.pyramid.specs.Definitions.Refusals.{shapeRefusal}
-use Rattle.pyramid.specs.Checks.Numbers.{Answers, shapeNumbers}
-use Rattle.pyramid.proofs.Refusals.{first-skip, first-between, answers-fails, unless-holds, unless-more, unless-elim, first-elim, last-elim}
-use Rattle.pyramid.proofs.Rules.{one-between, one-before, one-after, answered}
+use Rattle.pyramid.specs.Definitions.Refusals.{first, shapeRefusal}
+use Rattle.pyramid.specs.Checks.Numbers.{oneOf, Answers, shapeNumbers}
+use Rattle.pyramid.proofs.Refusals.{first-nil, first-skip, first-stop, first-here, first-last, first-between, answers-fails, unless-holds, unless-more, unless-elim, first-elim, last-elim}
+use Rattle.pyramid.proofs.Rules.{one-between, one-before, one-after, one-apart, answered}
 use Rattle.pyramid.proofs.Conditions.{shapeTests, shape-looks}
 use Rattle.bale.specs.Definitions.Words.{u32At}
 use Rattle.bale.specs.Definitions.Readings.{probeWhere, decode}
@@ -21,8 +21,8 @@ use Rattle.bale.specs.Definitions.Sections.{sectionRefusal}
 use Rattle.bale.specs.Definitions.Reader.{settingsIn, probeAt, shapeSectionRefusal, binsSectionRefusal, readingsSectionRefusal, levelSectionRefusal, levelSectionsRefusal, bodyRefusal}
 use Rattle.bale.specs.Definitions.Calls.{readRefusal, checkRefusal}
 use Rattle.bale.specs.Checks.Numbers.{sectionNumbers, checkNumbers, readNumbers}
-use Rattle.bale.specs.Checks.Totality.{ReadingIsTotal}
-use Rattle.bale.proofs.Sections.{eqb-of}
+use Rattle.bale.specs.Checks.Totality.{ShapeGives, ReadingIsTotal}
+use Rattle.bale.proofs.Sections.{Section, eqb-of, section-accepted, section-whole}
 
 module _ (bytes : List ℕ) where
   abbrev P : ℕ → Type 0
@@ -109,5 +109,56 @@ module _ (bytes : List ℕ) where
   unfolding readRefusal
   six places = (wrong-places places, λ h. first-skip _ _ (h .0) ∙ sym (answers-fails _ (ne-eqb _ _ (h .1))))
 
+  -- ---- a number of the shape
+
+  module _ (n : ℕ) (h : T (oneOf shapeNumbers n)) where
+    other : (m : ℕ) → P m → m ≢ n
+    other m p e = one-apart shapeNumbers (0 ∷ sectionNumbers) tt n h (subst P e p)
+
+    not-none : 0 ≢ n
+    not-none e = rw (← e) at h
+
+    not-places : 6 ≢ n
+    not-places e = rw (← e) at h
+
+    section-gives : shapeSectionRefusal bytes ≡ n → ShapeGives bytes n
+    unfolding shapeSectionRefusal
+    section-gives e =
+        let (section-passes, gives) = first-between (sectionRefusal bytes 0 4 2) _ [] (other _ (section 0 4 2)) (λ p. not-none (sym first-nil ∙ p)) e in
+        let w : Section bytes 0 4 2 = section-whole section-passes in
+        record { whole = omega (arith, w .present); counted = w .counted; gives = gives }
+
+    gives-section : ShapeGives bytes n → shapeSectionRefusal bytes ≡ n
+    unfolding shapeSectionRefusal
+    gives-section g =
+        let w : Section bytes 0 4 2 = record { present = omega (arith, g .whole); counted = g .counted } in
+        first-skip _ _ (section-accepted w) ∙ first-last _ ∙ g .gives
+
+    -- whatever is looked for after the shape section
+    after-section : (later : List ℕ) → first later ≢ n → (first (shapeSectionRefusal bytes ∷ later) ≡ n) ↔ ShapeGives bytes n
+    after-section later others = (
+      λ e. section-gives (first-here _ later others e),
+      λ g. let e = gives-section g in first-stop _ later (λ z. not-none (sym z ∙ e)) ∙ e,
+    )
+
+    not-body : first (bodyRefusal bytes ∷ []) ≢ n
+    not-body = other _ (last-elim P tt _ body)
+
+    shape-checked : (checkRefusal bytes ≡ n) ↔ ShapeGives bytes n
+    unfolding checkRefusal
+    shape-checked = after-section _ not-body
+
+    shape-read : (places : ℕ) → (readRefusal bytes places ≡ n) ↔ ShapeGives bytes n
+    unfolding readRefusal
+    shape-read places =
+        after-section _ (first-elim (λ m. m ≢ n) not-none _ _ (unless-elim (λ m. m ≢ n) not-none _ 6 not-places) not-body)
+
 pub reading-is-total : (bytes : List ℕ) → ReadingIsTotal bytes
-reading-is-total bytes = record { checked = checked bytes; read = read bytes; differ = differ bytes; six = six bytes }
+reading-is-total bytes = record {
+  checked = checked bytes;
+  read = read bytes;
+  differ = differ bytes;
+  six = six bytes;
+  shape-checked = shape-checked bytes;
+  shape-read = λ places n h. shape-read bytes n h places;
+}

@@ -65,14 +65,14 @@ pub fn coded_reading(kind: u8, number: u32) -> Probe
     probes::decoded(kind, number)
 }
 
-// The size of a file of settings. Refused: 1 to 3.
+// The size of a file of settings. Refused: 1, 13, 14, 15, 2, 3.
 pub fn file_size(s: Settings) -> FileSize
     ensures { λ r. ⌜ r ≡ sizeAnswer s ⌝ }
 {
     checking::size_of(s)
 }
 
-// Writes a file and answers its size. Refused: 1, 2, 3, 4, 6, 8, 11.
+// Writes a file and answers its size. Refused: 1, 13, 14, 15, 2, 3, 4, 6, 8, 11.
 pub fn write_file(s: Settings, note: Note, levels: &[i16], file: &mut [u8]) -> FileSize
     ensures { λ r. ⌜ r ≡ writeFile s note (now (levels .entry)) (now (file .entry)) .answer ⌝ }
     ensures { λ _. ⌜ now (file .exit) ≡ writeFile s note (now (levels .entry)) (now (file .entry)) .file ⌝ }
@@ -88,7 +88,8 @@ pub fn write_file(s: Settings, note: Note, levels: &[i16], file: &mut [u8]) -> F
     checking::size_of(s)
 }
 
-// Reads a file: its settings and readings in the answer, its indices in the level buffer. Refused in file order: 9, 10, 1, 2, 6, 3, 4, 11, 12.
+// Reads a file: its settings and readings in the answer, its indices in the level buffer.
+// Refused in file order: 9, 10, 1, 13, 14, 15, 2, 6, 3, 4, 11, 12.
 pub fn read_file(file: &[u8], levels: &mut [i16]) -> Bale
     ensures { λ r. ⌜ r ≡ readFile (now (file .entry)) (now (levels .entry)) .answer ⌝ }
     ensures { λ _. ⌜ now (levels .exit) ≡ readFile (now (file .entry)) (now (levels .entry)) .levels ⌝ }

@@ -1,28 +1,36 @@
 -- Each number is given on its condition and on no other, since each call looks through rules with their tests. Assumes nothing.
 use mathlib.Core.Path.{_≡_, refl, sym, _∙_}
-use mathlib.Core.Bool.{_&&_}
 use mathlib.Core.List.{List, [], _∷_, _++_}
 use Prim.Native.Nat.{ℕ, _*_, _≤_, _<_}
 use lib.Dec.{leb, eqb}
 use lib.IntN.{ℤ}
 use lib.ListN.{length}
 use Rattle.pyramid.specs.declared.Settings.{Settings}
-use Rattle.pyramid.specs.Definitions.Settings.{sideOk, kernelOk, bin, sizeOk, binsOk}
+use Rattle.pyramid.specs.Definitions.Settings.{sizeOk, depthOk, divides, kernelOk, bin, binsOk}
 use Rattle.pyramid.specs.Definitions.Sizes.{total}
 use Rattle.pyramid.specs.Definitions.Refusals.{first, shapeRefusal, settingsRefusal, buffersRefusal, valuesOk, levelsRefusal, codingRefusal, rebuildingRefusal}
 use Rattle.pyramid.specs.Definitions.Calls.{coding, rebuilding}
 use Rattle.pyramid.specs.Definitions.Answers.{boundsAnswer, nodesAnswer, shapeAnswer, levelSizeAnswer, deepestAnswer}
-use Rattle.pyramid.specs.Checks.Conditions.{SideRule, SlotRule, SizeRule, valuesRule, Conditions}
+use Rattle.pyramid.specs.Checks.Conditions.{DividesRule, SlotRule, sizeRule, valuesRule, Conditions}
 use Rattle.pyramid.proofs.Refusals.{first-last}
-use Rattle.pyramid.proofs.Rules.{Tested, refusals, first-join, both-say, given}
-use Rattle.pyramid.proofs.RuleTests.{le-decides, eq-decides, side-decides, size-decides, kernel-decides, bins-decide, values-decide, picture-decides}
+use Rattle.pyramid.proofs.Rules.{Tested, refusals, first-join, given}
+use Rattle.pyramid.proofs.RuleTests.{le-decides, eq-decides, size-decides, depth-decides, divides-decides, kernel-decides, bins-decide, values-decide, picture-decides}
 
 -- ---- the rules with their tests, in the order in which they are looked for
+
+abbrev pub sizeTest : ℕ → ℕ → Tested
+sizeTest columns rows = record { number = 1; test = sizeOk columns rows; says = sizeRule columns rows .says; decides = size-decides columns rows }
+
+abbrev pub dividesTest : ℕ → ℕ → ℕ → Tested
+dividesTest number depth side = record { number = number; test = divides depth side; says = DividesRule depth side; decides = divides-decides depth side }
 
 module _ (s : Settings) where
   abbrev pub shapeTests : List Tested
   shapeTests =
-      record { number = 1; test = sizeOk s; says = SizeRule s; decides = size-decides s }
+      sizeTest (s .columns) (s .rows)
+      ∷ record { number = 13; test = depthOk (s .depth); says = s .depth ≤ 6; decides = depth-decides (s .depth) }
+      ∷ dividesTest 14 (s .depth) (s .columns)
+      ∷ dividesTest 15 (s .depth) (s .rows)
       ∷ record { number = 2; test = kernelOk (s .kernel); says = (3 ≤ s .kernel) × (s .kernel ≤ 6); decides = kernel-decides s }
       ∷ []
 
@@ -83,12 +91,7 @@ module _ (s : Settings) where
         ∙ first-join (refusals settingsTests) (refusals (buffersTests picture levels work)) (refusals (valuesTest levels ∷ [])))
 
 abbrev pub deepestTests : ℕ → ℕ → List Tested
-deepestTests columns rows = record {
-  number = 1;
-  test = sideOk columns && sideOk rows;
-  says = SideRule columns × SideRule rows;
-  decides = both-say (sideOk columns) (sideOk rows) (side-decides columns) (side-decides rows);
-} ∷ []
+deepestTests columns rows = sizeTest columns rows ∷ []
 
 pub deepest-looks : (columns rows : ℕ) → deepestAnswer columns rows .refusal ≡ first (refusals (deepestTests columns rows))
 unfolding deepestAnswer

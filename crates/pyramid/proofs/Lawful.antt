@@ -27,13 +27,11 @@ unfolding slotOk
 empty-law depth l n h t = let u : T (eqb n 0) = rw (lt-leb l depth h) at t in eqb→eq n 0 u
 
 module _ (s : Settings) where
-  pub shaped : T (sizeOk s) → T (kernelOk (s .kernel)) → Shaped s
+  pub shaped : T (sizeOk (s .columns) (s .rows)) → T (depthOk (s .depth)) → T (divides (s .depth) (s .columns)) → T (divides (s .depth) (s .rows))
+      → T (kernelOk (s .kernel)) → Shaped s
   unfolding sizeOk kernelOk depthOk
-  shaped size kernel =
-      let (sides, rest) = both (sideOk (s .columns) && sideOk (s .rows)) _ size in
-      let (across, along) = both (sideOk (s .columns)) (sideOk (s .rows)) sides in
-      let (deep, whole) = both (depthOk (s .depth)) (divides (s .depth) (s .columns) && divides (s .depth) (s .rows)) rest in
-      let (c, r) = both (divides (s .depth) (s .columns)) (divides (s .depth) (s .rows)) whole in
+  shaped size deep c r kernel =
+      let (across, along) = both (sideOk (s .columns)) (sideOk (s .rows)) size in
       let (k₃, k₆) = both (leb 3 (s .kernel)) (leb (s .kernel) 6) kernel in
       record {
         deep = leb→le (s .depth) 6 deep;

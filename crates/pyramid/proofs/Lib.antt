@@ -39,8 +39,10 @@ pub mod SamePictures
 pub mod LoadedPictures
 pub mod ValueLevels
 pub mod ShapeAnswers
+pub mod ShapeRefusals
 pub mod Rules
 pub mod RuleTests
 pub mod Conditions
 pub mod Numbers
 pub mod Refused
+pub mod SizeAtFault

@@ -10,7 +10,7 @@ use lib.Dec.{T, leb, eqb, leb→le, eqb→eq}
 use lib.IntN.{ℤ}
 use lib.ListN.{length}
 use Rattle.pyramid.specs.declared.Settings.{Settings}
-use Rattle.pyramid.specs.Definitions.Settings.{sizeOk, kernelOk, binsOk}
+use Rattle.pyramid.specs.Definitions.Settings.{sizeOk, depthOk, divides, kernelOk, binsOk}
 use Rattle.pyramid.specs.Definitions.Sizes.{total}
 use Rattle.pyramid.specs.Definitions.Refusals.{unless, first, shapeRefusal, settingsRefusal, buffersRefusal, valuesOk, levelsRefusal, codingRefusal, rebuildingRefusal}
 use Rattle.pyramid.specs.Definitions.Calls.{leaves}
@@ -60,6 +60,12 @@ unfolding first
 first-later [] later e = refl
 first-later (zero ∷ xs) later e = first-later xs later e
 first-later (suc n ∷ xs) later e = absurd (omega arith)
+
+-- a number that no later rule gives
+pub first-here : (x : ℕ) (later : List ℕ) {number : ℕ} → first later ≢ number → first (x ∷ later) ≡ number → x ≡ number
+unfolding first
+first-here zero later other e = absurd (other e)
+first-here (suc n) later other e = e
 
 pub first-last : (x : ℕ) → first (x ∷ []) ≡ x
 unfolding first
@@ -145,8 +151,16 @@ module _ (s : Settings) where
   pub accepted-shape : shapeRefusal s ≡ 0 → Shaped s
   unfolding shapeRefusal
   accepted-shape e =
-      let (size, e₂) = first-none _ _ e in
-      shaped s (unless-none (sizeOk s) 0 size) (unless-none (kernelOk (s .kernel)) 1 (first-none _ _ e₂ .0))
+      let (size, e₁₃) = first-none _ _ e in
+      let (deep, e₁₄) = first-none _ _ e₁₃ in
+      let (across, e₁₅) = first-none _ _ e₁₄ in
+      let (along, e₂) = first-none _ _ e₁₅ in
+      shaped s
+      (unless-none (sizeOk (s .columns) (s .rows)) 0 size)
+      (unless-none (depthOk (s .depth)) 12 deep)
+      (unless-none (divides (s .depth) (s .columns)) 13 across)
+      (unless-none (divides (s .depth) (s .rows)) 14 along)
+      (unless-none (kernelOk (s .kernel)) 1 (first-none _ _ e₂ .0))
 
   pub accepted-settings : settingsRefusal s ≡ 0 → Lawful s
   unfolding settingsRefusal

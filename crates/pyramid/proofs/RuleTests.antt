@@ -1,6 +1,6 @@
 -- Each test of the definitions decides its rule in document 01's words. Assumes nothing.
 use mathlib.Core.Path.{_≡_}
-use mathlib.Core.Logic.{_↔_, Iff·trans}
+use mathlib.Core.Logic.{_↔_}
 use mathlib.Core.Bool.{Bool, _&&_}
 use mathlib.Core.List.{List}
 use Prim.Native.Nat.{ℕ, zero, suc, _-_, _*_, _%_, _^_, _≤_, _<_}
@@ -16,7 +16,7 @@ use Rattle.pyramid.specs.Definitions.Settings.{sideOk, depthOk, divides,
 use Rattle.pyramid.specs.Definitions.Rebuilding.{valueOf}
 use Rattle.pyramid.specs.Definitions.Buffers.{readLevels}
 use Rattle.pyramid.specs.Definitions.Refusals.{limit, valuesOk}
-use Rattle.pyramid.specs.Checks.Conditions.{SideRule, SlotRule, SizeRule, valuesRule}
+use Rattle.pyramid.specs.Checks.Conditions.{SideRule, DividesRule, SlotRule, sizeRule, valuesRule}
 use Rattle.pyramid.proofs.Buffers.{stack-all, all-stack}
 use Rattle.pyramid.proofs.Rules.{both-say}
 
@@ -39,6 +39,18 @@ pub side-decides : (side : ℕ) → T (sideOk side) ↔ SideRule side
 unfolding sideOk
 side-decides side = both-say (leb 2 side) (leb side 129) (le-decides 2 side) (le-decides side 129)
 
+pub size-decides : (columns rows : ℕ) → T (sizeOk columns rows) ↔ sizeRule columns rows .says
+unfolding sizeOk
+size-decides columns rows = both-say (sideOk columns) (sideOk rows) (side-decides columns) (side-decides rows)
+
+pub depth-decides : (depth : ℕ) → T (depthOk depth) ↔ (depth ≤ 6)
+unfolding depthOk
+depth-decides depth = le-decides depth 6
+
+pub divides-decides : (depth side : ℕ) → T (divides depth side) ↔ DividesRule depth side
+unfolding divides
+divides-decides depth side = eq-decides ((side - 1) % 2 ^ depth) 0
+
 module _ (depth l n : ℕ) where
   filled-decides : T (leb 1 n && leb n 255) ↔ ((1 ≤ n) × (n ≤ 255))
   filled-decides = both-say (leb 1 n) (leb n 255) (le-decides 1 n) (le-decides n 255)
@@ -54,16 +66,6 @@ module _ (depth l n : ℕ) where
   )
 
 module _ (s : Settings) where
-  pub size-decides : T (sizeOk s) ↔ SizeRule s
-  unfolding sizeOk depthOk divides
-  size-decides =
-      Iff·trans
-      (both-say (sideOk (s .columns) && sideOk (s .rows)) _
-      (both-say (sideOk (s .columns)) (sideOk (s .rows)) (side-decides (s .columns)) (side-decides (s .rows)))
-      (both-say (leb (s .depth) 6) _ (le-decides (s .depth) 6)
-      (both-say (eqb ((s .columns - 1) % 2 ^ s .depth) 0) (eqb ((s .rows - 1) % 2 ^ s .depth) 0) (eq-decides _ 0) (eq-decides _ 0))))
-      (λ h. record { sides = h .0; deep = h .1 .0; whole = h .1 .1 }, λ r. (r .sides, (r .deep, r .whole)))
-
   pub kernel-decides : T (kernelOk (s .kernel)) ↔ ((3 ≤ s .kernel) × (s .kernel ≤ 6))
   unfolding kernelOk
   kernel-decides = both-say (leb 3 (s .kernel)) (leb (s .kernel) 6) (le-decides 3 (s .kernel)) (le-decides (s .kernel) 6)

@@ -1,12 +1,12 @@
 -- Rules in an order, each with a number and a test: what the first that is broken answers. Assumes nothing.
-use mathlib.Core.Path.{_≡_, refl, sym, _∙_}
+use mathlib.Core.Path.{_≡_, refl, sym, _∙_, subst}
 use mathlib.Core.Logic.{_↔_}
 use mathlib.Core.Bool.{Bool, true, false, not, cond, _&&_}
 use mathlib.Core.List.{List, [], _∷_, _++_}
 use Prim.Native.Nat.{ℕ, zero, suc}
 use borrow.Author.Tests.{eq-eqb}
-use lib.Dec.{T, eqb, T-not}
-use Rattle.mathematics.proofs.Tests.{both, both-of}
+use lib.Dec.{T, eqb, eqb→eq, T-not}
+use Rattle.mathematics.proofs.Tests.{both, both-of, cond-elim}
 use Rattle.pyramid.specs.Definitions.Refusals.{unless, first}
 use Rattle.pyramid.specs.Checks.Numbers.{oneOf}
 use Rattle.pyramid.specs.Checks.Conditions.{Rule, GivenAfter, Given}
@@ -72,6 +72,19 @@ one-before (m ∷ ms) ns n h = cases (eqb n m) h (λ t. one-before ms ns n t)
 pub one-after : (k : ℕ) (ms ns : List ℕ) (n : ℕ) → T (oneOf (k ∷ ns) n) → T (oneOf (k ∷ (ms ++ ns)) n)
 one-after k [] ns n h = h
 one-after k (m ∷ ms) ns n h = one-between k m n (ms ++ ns) (one-after k ms ns n h)
+
+-- lists that share no number
+abbrev pub disjoint : List ℕ → List ℕ → Bool
+disjoint [] ns = true
+disjoint (m ∷ ms) ns = not (oneOf ns m) && disjoint ms ns
+
+pub one-apart : (ms ns : List ℕ) → T (disjoint ms ns) → (n : ℕ) → T (oneOf ms n) → T (oneOf ns n) → ⊥
+one-apart [] ns d n h k = absurd h
+one-apart (m ∷ ms) ns d n h k =
+    let (new, later) = both (not (oneOf ns m)) (disjoint ms ns) d in
+    cond-elim (eqb n m) true (oneOf ms n) (λ b. T b → ⊥)
+    (λ e t. T-not (oneOf ns m) new (subst (λ (m : ℕ). T (oneOf ns m)) (eqb→eq n m e) k))
+    (λ e t. one-apart ms ns later n t k) h
 
 -- ---- the answer is 0 or a rule's number
 

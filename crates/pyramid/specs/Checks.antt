@@ -4,3 +4,4 @@ pub mod Multiplier
 pub mod Numbers
 pub mod Conditions
 pub mod Refused
+pub mod SizeAtFault

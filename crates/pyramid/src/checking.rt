@@ -1,9 +1,9 @@
-// Whether settings are lawful (document 01, "Settings").
+// Whether settings are lawful (document 01, "Settings"), and which rule is broken first (document 02, P1).
 use crate::Settings;
 ghost use mathlib.Core.Path.{_≡_};
-ghost use mathlib.Core.Bool.{_&&_};
+ghost use mathlib.Core.Bool.{true};
 ghost use Prim.Native.Nat.{_≤_, _<_, min};
-ghost use Rattle.pyramid.specs.Definitions.Settings.{sideOk, kernelOk, slotOk, sizeOk, binsOk};
+ghost use Rattle.pyramid.specs.Definitions.Settings.{sideOk, sizeOk, kernelOk, slotOk, binsOk};
 ghost use Rattle.pyramid.specs.Definitions.Depth.{deepestDepth};
 ghost use Rattle.pyramid.specs.Definitions.Refusals.{shapeRefusal, settingsRefusal};
 
@@ -22,8 +22,8 @@ fn side_ok(side: u16) -> bool
     false
 }
 
-pub fn sides_ok(columns: u16, rows: u16) -> bool
-    ensures { λ r. ⌜ r ≡ (sideOk columns && sideOk rows) ⌝ }
+pub fn size_ok(columns: u16, rows: u16) -> bool
+    ensures { λ r. ⌜ r ≡ sizeOk columns rows ⌝ }
 {
     if side_ok(columns) {
         return side_ok(rows);
@@ -40,15 +40,6 @@ pub fn deepest(columns: u16, rows: u16) -> u16
     let r = u16::trailing_zeros(rows - 1);
     let d = lesser(lesser(c, r), 6);
     d as u16
-}
-
-fn size_ok(s: Settings) -> bool
-    ensures { λ r. ⌜ r ≡ sizeOk s ⌝ }
-{
-    if sides_ok(s.columns, s.rows) {
-        return s.depth <= deepest(s.columns, s.rows);
-    }
-    false
 }
 
 fn kernel_ok(kernel: u16) -> bool
@@ -86,12 +77,31 @@ fn bins_ok(s: Settings) -> bool
     true
 }
 
+// The number of the first rule that a depth above the deepest breaks: it is above 6, or above the deepest of the columns alone, or else too
+// deep for the rows.
+fn depth_refusal(s: Settings) -> u16
+    requires { ⌜ (sizeOk (s .columns) (s .rows) ≡ true) × (deepestDepth (s .columns) (s .rows) < s .depth) ⌝ }
+    ensures { λ r. ⌜ r ≡ shapeRefusal s ⌝ }
+{
+    let most = deepest(s.columns, s.columns);
+    if 6 < s.depth {
+        return 13;
+    }
+    if most < s.depth {
+        return 14;
+    }
+    15
+}
+
 // The number of the first rule that the shape breaks, or 0. The bins are not looked at.
 pub fn shape_refusal(s: Settings) -> u16
     ensures { λ r. ⌜ r ≡ shapeRefusal s ⌝ }
 {
-    if !size_ok(s) {
+    if !size_ok(s.columns, s.rows) {
         return 1;
+    }
+    if deepest(s.columns, s.rows) < s.depth {
+        return depth_refusal(s);
     }
     if !kernel_ok(s.kernel) {
         return 2;

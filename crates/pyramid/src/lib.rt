@@ -22,7 +22,7 @@ mod layering;
 mod ranging;
 mod taps;
 
-// The number of the first rule that settings break: 1 to 3, or 0.
+// The number of the first rule that settings break: 1, 13, 14, 15, 2, 3, or 0.
 pub use checking::settings_refusal;
 
 // Whether both ends of a range, and so all indices between, times their bin lie within 4,096 of 0.
@@ -89,21 +89,21 @@ fn nodes_of(s: Settings, refusal: u16) -> Nodes
     }
 }
 
-// T of settings. Refused: 1 to 3.
+// T of settings. Refused: 1, 13, 14, 15, 2, 3.
 pub fn total_nodes(s: Settings) -> Nodes
     ensures { λ r. ⌜ r ≡ nodesAnswer s ⌝ }
 {
     nodes_of(s, checking::settings_refusal(s))
 }
 
-// T of a shape, whose bins are not looked at. Refused: 1, 2.
+// T of a shape, whose bins are not looked at. Refused: 1, 13, 14, 15, 2.
 pub fn shape_nodes(s: Settings) -> Nodes
     ensures { λ r. ⌜ r ≡ shapeAnswer s ⌝ }
 {
     nodes_of(s, checking::shape_refusal(s))
 }
 
-// The columns and rows of a level of a shape; 0 by 0 for a level above the depth. Refused: 1, 2.
+// The columns and rows of a level of a shape; 0 by 0 for a level above the depth. Refused: 1, 13, 14, 15, 2.
 pub fn level_size(s: Settings, level: u16) -> LevelSize
     ensures { λ r. ⌜ r ≡ levelSizeAnswer s level ⌝ }
 {
@@ -131,7 +131,7 @@ pub fn level_size(s: Settings, level: u16) -> LevelSize
     }
 }
 
-// How far a rebuilt value of each level can lie from its average. Refused: 1 to 3.
+// How far a rebuilt value of each level can lie from its average. Refused: 1, 13, 14, 15, 2, 3.
 pub fn level_bounds(s: Settings) -> Bounds
     ensures { λ r. ⌜ r ≡ boundsAnswer s ⌝ }
 {
@@ -152,7 +152,7 @@ pub fn level_bounds(s: Settings) -> Bounds
 pub fn deepest_depth(columns: u16, rows: u16) -> Deepest
     ensures { λ r. ⌜ r ≡ deepestAnswer columns rows ⌝ }
 {
-    if checking::sides_ok(columns, rows) {
+    if checking::size_ok(columns, rows) {
         return Deepest {
             refusal: 0,
             depth: checking::deepest(columns, rows),
@@ -164,7 +164,7 @@ pub fn deepest_depth(columns: u16, rows: u16) -> Deepest
     }
 }
 
-// Whether rebuilding can take a level buffer, whatever the others are. Refused: 1, 2, 3, 6, 11.
+// Whether rebuilding can take a level buffer, whatever the others are. Refused: 1, 13, 14, 15, 2, 3, 6, 11.
 pub fn levels_refusal(s: Settings, levels: &[i16]) -> u16
     ensures { λ r. ⌜ r ≡ levelsRefusal s (now (levels .entry)) ⌝ }
 {
@@ -202,7 +202,8 @@ fn call_refusal(s: Settings, picture: usize, levels: usize, work: usize) -> u16
     0
 }
 
-// Codes a picture: its indices in the level buffer, its averages in the work buffer. Refused: 1, 2, 3, 5, 6, 7.
+// Codes a picture: its indices in the level buffer, its averages in the work buffer.
+// Refused: 1, 13, 14, 15, 2, 3, 5, 6, 7.
 pub fn coding(s: Settings, picture: &[u8], levels: &mut [i16], work: &mut [i32]) -> u16
     ensures { λ r. ⌜ r ≡ coding s (now (picture .entry)) (now (levels .entry)) (now (work .entry)) .answer ⌝ }
     ensures { λ _. ⌜ now (levels .exit) ≡
@@ -230,7 +231,8 @@ fn code(s: Settings, picture: &[u8], levels: &mut [i16], work: &mut [i32])
     layering::index_levels(s, work, levels);
 }
 
-// Rebuilds a picture from its level buffer: the unclamped values in the work buffer, the clamped ones in the picture. Refused: 1, 2, 3, 5, 6, 7, 11.
+// Rebuilds a picture from its level buffer: the unclamped values in the work buffer, the clamped ones in the picture.
+// Refused: 1, 13, 14, 15, 2, 3, 5, 6, 7, 11.
 pub fn rebuilding(s: Settings, levels: &[i16], picture: &mut [u8], work: &mut [i32]) -> u16
     ensures { λ r. ⌜ r ≡
         rebuilding s (now (levels .entry)) (now (picture .entry)) (now (work .entry)) .answer ⌝ }

@@ -19,7 +19,7 @@ ReadingRule NotFitted = Unit {0}
 ReadingRule (Percentage x) = (toBits binary32 x < 0x8000_0000) × T (le x (ofBits binary32 0x42C8_0000))
 ReadingRule (Fault code) = (1 ≤ code) × (code ≤ 255)
 
--- the writer looks for 1, 2, 3, 4, 6, 8, 11; a file has 24 + 4(N + 1) + 2T bytes
+-- the writer looks for the settings' numbers, then 4, 6, 8, 11; a file has 24 + 4(N + 1) + 2T bytes
 abbrev pub writingRules : Settings → Note → List ℤ → ℕ → List Rule
 writingRules s note levels room =
     settingsRules s

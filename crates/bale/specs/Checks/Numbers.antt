@@ -1,4 +1,4 @@
--- Which numbers each call can answer (document 01, "Who can cause which refusal"), a row for each call. Assumes nothing.
+-- Which numbers each call can answer (document 01, "Who can cause which refusal"; document 02, P1), a row for each call. Assumes nothing.
 use mathlib.Core.List.{List, [], _∷_, _++_}
 use Prim.Native.Nat.{ℕ}
 use lib.IntN.{ℤ}

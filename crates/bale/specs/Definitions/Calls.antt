@@ -24,11 +24,11 @@ pub record WriteOutcome : Type 0 where
   pub file : List ℕ
 
 module _ (s : Settings) where
-  -- the size of a file of settings: 1 to 3 are looked for
+  -- the size of a file of settings, whose numbers are looked for
   unfoldable pub sizeAnswer : FileSize
   sizeAnswer = record { refusal = settingsRefusal s; size = leaves (settingsRefusal s) (fileLength s) 0 }
 
-  -- the writer looks for 1, 2, 3, 4, 6, 8, 11
+  -- the writer looks for the settings' numbers, then 4, 6, 8, 11
   unfoldable pub writeRefusal : Note → List ℤ → ℕ → ℕ
   writeRefusal note levels room =
       first (settingsRefusal s

@@ -82,7 +82,7 @@ module _ (bytes : List ℕ) where
 
   -- ---- which rule is broken first: 9, 10, 9 of each section, then the rules of its items
 
-  -- 1, 2
+  -- 1, 13, 14, 15, 2
   unfoldable pub shapeSectionRefusal : ℕ
   shapeSectionRefusal = first (sectionRefusal bytes shapePlace 4 2 ∷ shapeRefusal settingsIn ∷ [])
 

@@ -1,5 +1,5 @@
--- Each number is given on its condition and on no other (document 01, "Who can cause which refusal"). The rules are propositions in
--- document 01's words, beside the tests that Definitions have. Assumes nothing.
+-- Each number is given on its condition and on no other (document 01, "Who can cause which refusal"; document 02, P1). The rules are
+-- propositions in the documents' words, beside the tests that Definitions have. Assumes nothing.
 use mathlib.Core.Path.{_≡_}
 use mathlib.Core.Logic.{_↔_}
 use mathlib.Core.List.{List, [], _∷_, _++_}
@@ -36,20 +36,28 @@ Given rules answer = GivenAfter (Unit {0}) rules answer
 abbrev pub SideRule : ℕ → Type 0
 SideRule side = (2 ≤ side) × (side ≤ 129)
 
+-- C and R are sides
+abbrev pub sizeRule : ℕ → ℕ → Rule
+sizeRule columns rows = record { number = 1; says = SideRule columns × SideRule rows }
+
+-- 2^N divides a side less 1
+abbrev pub DividesRule : ℕ → ℕ → Type 0
+DividesRule depth side = (side - 1) % 2 ^ depth ≡ 0
+
 -- slots 0 to N hold 1 to 255; slots above N hold 0
 pub record SlotRule (depth l n : ℕ) : Type 0 where
   pub upto : l ≤ depth → (1 ≤ n) × (n ≤ 255)
   pub above : depth < l → n ≡ 0
 
 module _ (s : Settings) where
-  -- C and R are sides, N is 0 to 6, and 2^N divides both C - 1 and R - 1
-  pub record SizeRule : Type 0 where
-    pub sides : SideRule (s .columns) × SideRule (s .rows)
-    pub deep : s .depth ≤ 6
-    pub whole : ((s .columns - 1) % 2 ^ s .depth ≡ 0) × ((s .rows - 1) % 2 ^ s .depth ≡ 0)
-
   abbrev pub shapeRules : List Rule
-  shapeRules = record { number = 1; says = SizeRule } ∷ record { number = 2; says = (3 ≤ s .kernel) × (s .kernel ≤ 6) } ∷ []
+  shapeRules =
+      sizeRule (s .columns) (s .rows)
+      ∷ record { number = 13; says = s .depth ≤ 6 }
+      ∷ record { number = 14; says = DividesRule (s .depth) (s .columns) }
+      ∷ record { number = 15; says = DividesRule (s .depth) (s .rows) }
+      ∷ record { number = 2; says = (3 ≤ s .kernel) × (s .kernel ≤ 6) }
+      ∷ []
 
   abbrev pub settingsRules : List Rule
   settingsRules = shapeRules ++ (record { number = 3; says = (l : ℕ) → l < 7 → SlotRule (s .depth) l (bin s l) } ∷ [])
@@ -85,4 +93,4 @@ pub record Conditions (s : Settings) : Type 0 where
   pub of-shape : Given (shapeRules s) (shapeAnswer s .refusal)
   pub of-level-size : (l : ℕ) → Given (shapeRules s) (levelSizeAnswer s l .refusal)
   -- the deepest depth, on size only
-  pub of-deepest : (columns rows : ℕ) → Given (record { number = 1; says = SideRule columns × SideRule rows } ∷ []) (deepestAnswer columns rows .refusal)
+  pub of-deepest : (columns rows : ℕ) → Given (sizeRule columns rows ∷ []) (deepestAnswer columns rows .refusal)

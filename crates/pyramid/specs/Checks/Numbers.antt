@@ -1,4 +1,4 @@
--- Which numbers each call can answer (document 01, "Who can cause which refusal"), a row for each call. Assumes nothing.
+-- Which numbers each call can answer (document 01, "Who can cause which refusal"; document 02, P1), a row for each call. Assumes nothing.
 use mathlib.Core.Bool.{Bool, true, false, cond}
 use mathlib.Core.List.{List, [], _∷_, _++_}
 use Prim.Native.Nat.{ℕ}
@@ -20,7 +20,7 @@ Answers numbers n = T (oneOf (0 ∷ numbers) n)
 
 -- a shape; settings, as the bound, T and a file's size look for them
 abbrev pub shapeNumbers : List ℕ
-shapeNumbers = 1 ∷ 2 ∷ []
+shapeNumbers = 1 ∷ 13 ∷ 14 ∷ 15 ∷ 2 ∷ []
 
 abbrev pub settingsNumbers : List ℕ
 settingsNumbers = shapeNumbers ++ (3 ∷ [])

@@ -1,6 +1,6 @@
--- What the calls on settings and sizes answer (document 01, "Who can cause which refusal"): the bound looks for 1 to 3, a shape for 1 and 2,
--- and the deepest depth for 1, on size only; a refusal holds 0 in the numbers. Assumes nothing.
-use mathlib.Core.Bool.{cond, _&&_}
+-- What the calls on settings and sizes answer (document 01, "Who can cause which refusal"): the bound looks for the settings' numbers, a
+-- shape for its own, and the deepest depth for 1, on size only; a refusal holds 0 in the numbers. Assumes nothing.
+use mathlib.Core.Bool.{cond}
 use mathlib.Core.List.{List}
 use Prim.Native.Nat.{ℕ}
 use lib.Dec.{leb}
@@ -11,7 +11,7 @@ use Rattle.pyramid.specs.declared.Nodes.{Nodes}
 use Rattle.pyramid.specs.declared.Bounds.{Bounds}
 use Rattle.pyramid.specs.declared.Deepest.{Deepest}
 use Rattle.pyramid.specs.declared.LevelSize.{LevelSize}
-use Rattle.pyramid.specs.Definitions.Settings.{sideOk}
+use Rattle.pyramid.specs.Definitions.Settings.{sizeOk}
 use Rattle.pyramid.specs.Definitions.Sizes.{columnsAt, rowsAt, total}
 use Rattle.pyramid.specs.Definitions.Bound.{boundAt}
 use Rattle.pyramid.specs.Definitions.Depth.{deepestDepth}
@@ -44,5 +44,5 @@ levelSizeAnswer s l =
 
 unfoldable pub deepestAnswer : ℕ → ℕ → Deepest
 deepestAnswer columns rows =
-    let refusal = unless (sideOk columns && sideOk rows) 1 in
+    let refusal = unless (sizeOk columns rows) 1 in
     record { refusal = refusal; depth = leaves refusal (deepestDepth columns rows) 0 }

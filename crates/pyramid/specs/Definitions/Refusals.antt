@@ -1,5 +1,5 @@
--- Who is refused, and with which number (document 01, "Who can cause which refusal"): the number of the first rule that is broken, in the
--- order of each call; 0 where none is. Assumes nothing.
+-- Who is refused, and with which number (document 01, "Who can cause which refusal"; document 02, P1): the number of the first rule that is
+-- broken, in the order of each call; 0 where none is. Assumes nothing.
 use mathlib.Core.Bool.{Bool, cond}
 use mathlib.Core.List.{List, [], _∷_}
 use Prim.Native.Nat.{ℕ, zero, suc, _*_}
@@ -8,7 +8,7 @@ use lib.IntN.{ℤ, pos, natAbs, _*ℤ_}
 use lib.ListN.{length}
 use Rattle.mathematics.specs.Definitions.Tests.{all}
 use Rattle.pyramid.specs.declared.Settings.{Settings}
-use Rattle.pyramid.specs.Definitions.Settings.{sizeOk, kernelOk, binsOk}
+use Rattle.pyramid.specs.Definitions.Settings.{sizeOk, depthOk, divides, kernelOk, binsOk}
 use Rattle.pyramid.specs.Definitions.Sizes.{total}
 use Rattle.pyramid.specs.Definitions.Rebuilding.{valueOf}
 use Rattle.pyramid.specs.Definitions.Buffers.{allLevels, readLevels}
@@ -32,9 +32,15 @@ unfoldable pub indexOk : ℕ → ℤ → Bool
 indexOk n m = leb (natAbs (m *ℤ pos n)) limit
 
 module _ (s : Settings) where
-  -- 1: size, depth or divisibility; 2: the kernel
+  -- 1: C or R is outside 2 to 129; 13: the depth is above 6; 14: 2^N does not divide C - 1; 15: it does not divide R - 1; 2: the kernel
   unfoldable pub shapeRefusal : ℕ
-  shapeRefusal = first (unless (sizeOk s) 1 ∷ unless (kernelOk (s .kernel)) 2 ∷ [])
+  shapeRefusal =
+      first (unless (sizeOk (s .columns) (s .rows)) 1
+      ∷ unless (depthOk (s .depth)) 13
+      ∷ unless (divides (s .depth) (s .columns)) 14
+      ∷ unless (divides (s .depth) (s .rows)) 15
+      ∷ unless (kernelOk (s .kernel)) 2
+      ∷ [])
 
   -- these, then 3: a bin slot
   unfoldable pub settingsRefusal : ℕ
@@ -53,7 +59,7 @@ module _ (s : Settings) where
   unfoldable pub levelsRefusal : List ℤ → ℕ
   levelsRefusal levels = first (settingsRefusal ∷ unless (eqb (length levels) (total s)) 6 ∷ unless (valuesOk levels) 11 ∷ [])
 
-  -- coding looks for 1, 2, 3, 5, 6, 7
+  -- coding looks for the settings' numbers, then 5, 6, 7
   unfoldable pub codingRefusal : List ℕ → List ℤ → List ℤ → ℕ
   codingRefusal picture levels work = first (settingsRefusal ∷ buffersRefusal (length picture) (length levels) (length work) ∷ [])
 

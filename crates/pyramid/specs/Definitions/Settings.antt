@@ -10,6 +10,10 @@ use Rattle.pyramid.specs.declared.Settings.{Settings}
 unfoldable pub sideOk : ℕ → Bool
 sideOk side = leb 2 side && leb side 129
 
+-- what number 1 is about: both of them
+unfoldable pub sizeOk : ℕ → ℕ → Bool
+sizeOk columns rows = sideOk columns && sideOk rows
+
 -- N, the depth, 0 to 6
 unfoldable pub depthOk : ℕ → Bool
 depthOk depth = leb depth 6
@@ -31,10 +35,6 @@ unfoldable pub slotOk : ℕ → ℕ → ℕ → Bool
 slotOk depth l n = cond (leb l depth) (leb 1 n && leb n 255) (eqb n 0)
 
 module _ (s : Settings) where
-  -- what number 1 is about: size, depth and divisibility
-  unfoldable pub sizeOk : Bool
-  sizeOk = (sideOk (s .columns) && sideOk (s .rows)) && (depthOk (s .depth) && (divides (s .depth) (s .columns) && divides (s .depth) (s .rows)))
-
   -- what number 3 is about: all seven slots
   unfoldable pub binsOk : Bool
   binsOk = allBelow 7 (λ l. slotOk (s .depth) l (bin s l))
