@@ -83,7 +83,7 @@ def file_size(settings: Settings) -> int:
 
 
 def write_refusal(settings: Settings, note: Note, indices: list[int], buffer_length: int) -> int:
-    """Refusals 1, 2, 3, 4, 6, 8, 11 in this order, or 0."""
+    """The settings' first refusal, then 4, 6, 8, 11 in this order, or 0."""
     refusal = settings_refusal(settings)
     if refusal != ACCEPTED:
         return refusal
@@ -152,7 +152,7 @@ class FileCursor:
 
 
 def read_shape(cursor: FileCursor) -> tuple[int, int, int, int]:
-    """C, R, N and k, lawful (1, then 2)."""
+    """C, R, N and k, lawful (the shape's first refusal)."""
     columns, rows, depth, kernel = struct.unpack("<4H", cursor.take_items(SHAPE_COUNT, NUMBER_BYTES))
     refusal = shape_refusal(columns, rows, depth, kernel)
     if refusal != ACCEPTED:

@@ -1,16 +1,18 @@
 """Properties of the bale file on seeded files."""
 
+from collections import Counter
+
 from bale import NO_SETTINGS, NONE_FITTED, file_size, is_percentage_lawful, listing, read_bale, write_bale
-from faulty_files import faulty_files
+from faulty_files import broken_shapes, faulty_files
 from pictures import random_indices
-from piece_a import COLUMNS_AT, DEPTH_AT, FILE_A, KERNEL_AT, changed, number
+from piece_a import BINS_COUNT_AT, COLUMNS_AT, DEPTH_AT, FILE_A, KERNEL_AT, ROWS_AT, changed, number
 from random_files import BITS_OF_100, damage, random_file, random_note
 from seeded import SEED, Seeded, random_settings
 from settings import total_nodes
 from tally import Tally
 
 # Refusals that the reader can answer without a lent level buffer.
-READER_REFUSALS = (1, 2, 3, 4, 9, 10, 11, 12)
+READER_REFUSALS = (1, 2, 3, 4, 9, 10, 11, 12, 13, 14, 15)
 
 
 def check_percentages(tally: Tally) -> None:
@@ -37,14 +39,17 @@ def check_faulty_files(tally: Tally) -> None:
 
 
 def check_lent_levels(tally: Tally) -> None:
-    """Refusal 6 comes right after the shape section."""
+    """Refusal 6 comes right after the shape section, and after all that is refused in it."""
     for length in (0, 12, 14, 22359):
         tally.equal(f"whole file, level buffer of {length}", read_bale(FILE_A, length).refusal, 6)
         tally.equal(f"shape only, level buffer of {length}", read_bale(FILE_A[:10], length).refusal, 6)
         tally.equal(f"shape cut, level buffer of {length}", read_bale(FILE_A[:9], length).refusal, 9)
-        for place, value, answer in ((0, 5, 10), (COLUMNS_AT, 4, 1), (DEPTH_AT, 2, 1), (KERNEL_AT, 7, 2), (10, 9, 6)):
+        for place, value, answer in ((0, 5, 10), (COLUMNS_AT, 1, 1), (DEPTH_AT, 7, 13), (COLUMNS_AT, 4, 14),
+                                     (ROWS_AT, 4, 15), (KERNEL_AT, 7, 2), (BINS_COUNT_AT, 9, 6)):
             data = changed(place, number(value))
             tally.equal(f"{value} at {place}, level buffer of {length}", read_bale(data, length).refusal, answer)
+        for data, answer in broken_shapes():
+            tally.equal(f"shape {data[:10].hex()}, level buffer of {length}", read_bale(data, length).refusal, answer)
     tally.equal("shape only, level buffer of 13", read_bale(FILE_A[:10], 13).refusal, 9)
 
 
@@ -67,19 +72,20 @@ def check_whole_file(tally: Tally, name: str, numbers: Seeded) -> None:
 
 
 def check_damaged_files(tally: Tally) -> None:
-    """A damaged file is refused, or it is written again byte for byte."""
+    """A damaged file is refused, or it is written again byte for byte; every refusal occurs."""
     numbers = Seeded(SEED + 6)
-    accepted = 0
+    answers = Counter()
     for turn in range(3000):
         data = damage(random_file(numbers, 7), numbers)
         bale = read_bale(data)
-        if bale.refusal != 0:
-            tally.true(f"damaged {turn}: refusal {bale.refusal}", bale.refusal in READER_REFUSALS)
-            continue
-        accepted += 1
-        written = write_bale(bale.settings, bale.note, list(bale.indices), len(data))
-        tally.true(f"damaged {turn}: accepted file written again", written == (0, data))
-    tally.true(f"damaged files accepted: {accepted}", accepted > 100)
+        answers[bale.refusal] += 1
+        if bale.refusal == 0:
+            written = write_bale(bale.settings, bale.note, list(bale.indices), len(data))
+            tally.true(f"damaged {turn}: accepted file written again", written == (0, data))
+    tally.true(f"damaged files accepted: {answers[0]}", answers[0] > 100)
+    tally.equal("answers to damaged files", sorted(answers), sorted((0, *READER_REFUSALS)))
+    rarest = min(answers.values())
+    tally.true(f"damaged files with the rarest answer: {rarest}", rarest > 20)
 
 
 def run(tally: Tally) -> None:

@@ -55,7 +55,11 @@ def check_sizes(tally: Tally) -> None:
         tally.equal(f"C = {columns}", settings_refusal(Settings(columns, 3, 0, 4, fill_slots([1]))), 1)
         tally.equal(f"R = {columns}", settings_refusal(Settings(3, columns, 0, 4, fill_slots([1]))), 1)
         tally.equal(f"deepest depth of {columns} by 3", deepest_depth(columns, 3), (1, 0))
-    tally.equal("C = 4, N = 1", settings_refusal(Settings(4, 3, 1, 4, fill_slots([1, 1]))), 1)
+    # Document 02, P1: which size is at fault.
+    for columns, rows, depth, answer in ((4, 3, 1, 14), (3, 4, 1, 15), (4, 4, 1, 14), (129, 129, 7, 13), (4, 4, 7, 13),
+                                         (3, 3, 7, 13), (1, 3, 7, 1), (3, 1, 7, 1), (1, 4, 1, 1), (4, 130, 1, 1)):
+        settings = Settings(columns, rows, depth, 4, (1,) * 7)
+        tally.equal(f"C = {columns}, R = {rows}, N = {depth}", settings_refusal(settings), answer)
     tally.equal("2 by 2, N = 0", settings_refusal(Settings(2, 2, 0, 4, fill_slots([1]))), 0)
     tally.equal("2 by 2, N = 0, T", total_nodes(2, 2, 0), 4)
     for columns, rows, depth in ((129, 129, 6), (97, 97, 5), (2, 129, 0), (129, 2, 0), (3, 3, 1), (65, 129, 6)):

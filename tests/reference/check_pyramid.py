@@ -75,14 +75,20 @@ def trailing_zeros(number: int) -> int:
     return len(f"{number:b}") - len(f"{number:b}".rstrip("0"))
 
 
+def depth_answers(columns: int, rows: int) -> list[int]:
+    """The refusals of depths 0 to 8 of a lawful size from trailing zero bits: 14 and then 15 up to 6, 13 above."""
+    allowed, both = trailing_zeros(columns - 1), min(trailing_zeros(columns - 1), trailing_zeros(rows - 1))
+    return [0 if depth <= both else 15 if depth <= allowed else 14 for depth in range(7)] + [13, 13]
+
+
 def check_depths(tally: Tally) -> None:
-    """The deepest depth from trailing zero bits, and lawful depths up to it and no further, for every size."""
+    """The deepest depth from trailing zero bits, and the answers to all depths, for every size."""
     for columns in range(2, 130):
         for rows in range(2, 130):
             deepest = min(trailing_zeros(columns - 1), trailing_zeros(rows - 1), LARGEST_DEPTH)
-            lawful = [depth for depth in range(9) if shape_refusal(columns, rows, depth, 3) == 0]
-            tally.true(f"deepest depth and lawful depths of {columns} by {rows}",
-                       deepest_depth(columns, rows) == (0, deepest) and lawful == list(range(deepest + 1)))
+            answers = [shape_refusal(columns, rows, depth, 3) for depth in range(9)]
+            tally.true(f"deepest depth and answers to depths of {columns} by {rows}",
+                       deepest_depth(columns, rows) == (0, deepest) and answers == depth_answers(columns, rows))
 
 
 # The bound and the limits of values.

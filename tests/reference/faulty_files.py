@@ -4,6 +4,7 @@ The answers here are worked from document 01 by hand, not by the reader, so that
 """
 
 from bale import FAULT, NOT_FITTED, PERCENTAGE
+from faulty_shapes import SHAPES, first_of
 from piece_a import (BINS_COUNT_AT, COLUMNS_AT, DEPTH_AT, FILE_A, FIRST_READING_AT, KERNEL_AT, LOW_BIN_AT, LOW_COUNT_AT,
                      LOW_INDICES_AT, READINGS_COUNT_AT, ROWS_AT, SECOND_READING_AT, TOP_BIN_AT, TOP_COUNT_AT,
                      TOP_INDICES_AT, changed, number)
@@ -19,16 +20,33 @@ def wrong_counts() -> list[Case]:
 
 
 def wrong_shapes() -> list[Case]:
-    """Sizes, depths and kernels that break the settings rules: refusals 1 and 2."""
-    sides = [(changed(place, number(value)), 1) for place in (COLUMNS_AT, ROWS_AT)
-             for value in (0, 1, 2, 4, 128, 130, 131, 259, 65535)]
-    depths = [(changed(DEPTH_AT, number(value)), 1) for value in (2, 3, 6, 7, 8, 257, 65535)]
+    """Sizes, depths and kernels of a 3 by 3 picture at depth 1 that break the settings rules: one number changed."""
+    outside = [(changed(place, number(value)), 1) for place in (COLUMNS_AT, ROWS_AT)
+               for value in (0, 1, 130, 131, 259, 65535)]
+    uneven = [(changed(place, number(value)), answer) for place, answer in ((COLUMNS_AT, 14), (ROWS_AT, 15))
+              for value in (2, 4, 128)]
+    # 4 and more divide neither 3 - 1; the columns go first.
+    depths = [(changed(DEPTH_AT, number(value)), answer) for value, answer in
+              ((2, 14), (3, 14), (6, 14), (7, 13), (8, 13), (257, 13), (65535, 13))]
     kernels = [(changed(KERNEL_AT, number(value)), 2) for value in (0, 1, 2, 7, 260, 65535)]
-    both = [(changed(KERNEL_AT, number(9), changed(COLUMNS_AT, number(4))), 1)]
     # A lawful shape that the later counts do not fit.
     lawful = [(changed(place, number(value)), 10) for place, value in ((COLUMNS_AT, 5), (ROWS_AT, 129), (DEPTH_AT, 0))]
     kernels_right = [(changed(KERNEL_AT, number(value)), 0) for value in (3, 4, 5, 6)]
-    return sides + depths + kernels + both + lawful + kernels_right
+    return outside + uneven + depths + kernels + lawful + kernels_right
+
+
+def broken_shapes() -> list[Case]:
+    """Every set of the shape's refusals, alone and before faults of the next section; a cut of the shape goes first."""
+    cases = []
+    for columns, rows, depth, broken in SHAPES:
+        for kernel, faults in ((4, broken), (7, broken + (2,))):
+            if not faults:
+                continue
+            answer = first_of(faults)
+            data = changed(COLUMNS_AT, b"".join(number(item) for item in (columns, rows, depth, kernel)))
+            cases += [(data, answer), (data[:BINS_COUNT_AT], answer), (data[:BINS_COUNT_AT - 1], 9),
+                      (changed(BINS_COUNT_AT, number(9), data), answer)]
+    return cases
 
 
 def wrong_bins() -> list[Case]:
@@ -117,5 +135,5 @@ def several_faults() -> list[Case]:
 def faulty_files() -> list[Case]:
     """All of them, and every beginning of the file: refusal 9."""
     beginnings = [(FILE_A[:length], 9) for length in range(len(FILE_A))]
-    return (beginnings + wrong_counts() + wrong_shapes() + wrong_bins() + readings() + wrong_indices()
-            + several_faults())
+    return (beginnings + wrong_counts() + wrong_shapes() + broken_shapes() + wrong_bins() + readings()
+            + wrong_indices() + several_faults())

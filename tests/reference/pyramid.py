@@ -124,7 +124,7 @@ def split_levels(flat: list[int], settings: Settings) -> list[Level]:
 # Coding.
 
 def call_refusal(settings: Settings, picture_length: int, level_length: int, work_length: int) -> int:
-    """Refusals 1, 2, 3, 5, 6, 7 in this order, or 0."""
+    """The settings' first refusal, then 5, 6, 7 in this order, or 0."""
     refusal = settings_refusal(settings)
     if refusal != ACCEPTED:
         return refusal

@@ -7,6 +7,9 @@ from seeded import Seeded, random_settings
 # Bits of the 32-bit float 100. Floats with a clear sign bit are ordered as their bits are.
 BITS_OF_100 = 0x42C80000
 
+# Bytes of the shape section, whose damage changes what is looked for in all others.
+SHAPE_BYTES = 10
+
 
 def random_reading(numbers: Seeded) -> Reading:
     """A lawful reading."""
@@ -30,7 +33,7 @@ def random_file(numbers: Seeded, largest_side: int) -> bytes:
 
 
 def damage_once(damaged: bytearray, numbers: Seeded) -> None:
-    """Change, drop or put in one byte, or cut the file."""
+    """Change, drop or put in one byte, or cut the file; one of four changes, drops and cuts is in the shape section."""
     way = numbers.between(0, 9)
     if way == 0:
         damaged.insert(numbers.between(0, len(damaged)), numbers.between(0, 255))
@@ -40,7 +43,8 @@ def damage_once(damaged: bytearray, numbers: Seeded) -> None:
         return
     if not damaged:
         return
-    place = numbers.between(0, len(damaged) - 1)
+    end = SHAPE_BYTES if numbers.between(0, 3) == 0 else len(damaged)
+    place = numbers.between(0, min(end, len(damaged)) - 1)
     if way == 2:
         del damaged[place]
     elif way == 3:

@@ -1,4 +1,4 @@
-"""Settings of the pyramid, their refusals 1 to 3, level sizes, the deepest depth and the bound (document 01)."""
+"""Settings of the pyramid, their refusals, level sizes, the deepest depth and the bound (documents 01, and 02 P1)."""
 
 from dataclasses import dataclass
 from fractions import Fraction
@@ -15,9 +15,9 @@ LARGEST_BIN = 255
 # Document 01, "Bound": the multiplier in hundredths for each k.
 BOUND_HUNDREDTHS = {3: 100, 4: 100, 5: 100, 6: 196}
 
-# Document 01, "Who can cause which refusal". 0 is used here for an accepted call.
+# Document 01, "Who can cause which refusal", and document 02, P1. 0 is used here for an accepted call.
 ACCEPTED = 0
-BAD_SHAPE = 1
+BAD_SIZE = 1
 BAD_KERNEL = 2
 BAD_BIN = 3
 BAD_READING = 4
@@ -29,6 +29,9 @@ FILE_ENDS_EARLY = 9
 BAD_COUNT = 10
 BAD_INDEX = 11
 BYTES_FOLLOW = 12
+BAD_DEPTH = 13
+COLUMNS_INDIVISIBLE = 14
+ROWS_INDIVISIBLE = 15
 
 
 @dataclass(frozen=True)
@@ -47,17 +50,21 @@ def is_size_lawful(columns: int, rows: int) -> bool:
     return all(SMALLEST_SIDE <= side <= LARGEST_SIDE for side in (columns, rows))
 
 
-def is_depth_lawful(columns: int, rows: int, depth: int) -> bool:
-    """Say whether the depth is 0 to 6 and 2 to the depth divides both sides less 1."""
-    if not 0 <= depth <= LARGEST_DEPTH:
-        return False
-    return (columns - 1) % 2 ** depth == 0 and (rows - 1) % 2 ** depth == 0
+def is_divisible(side: int, depth: int) -> bool:
+    """Say whether 2 to the depth divides a side less 1."""
+    return (side - 1) % 2 ** depth == 0
 
 
 def shape_refusal(columns: int, rows: int, depth: int, kernel: int) -> int:
-    """Refusal 1, then 2, or 0."""
-    if not is_size_lawful(columns, rows) or not is_depth_lawful(columns, rows, depth):
-        return BAD_SHAPE
+    """Refusals 1, 13, 14, 15, 2 in this order, or 0."""
+    if not is_size_lawful(columns, rows):
+        return BAD_SIZE
+    if depth > LARGEST_DEPTH:
+        return BAD_DEPTH
+    if not is_divisible(columns, depth):
+        return COLUMNS_INDIVISIBLE
+    if not is_divisible(rows, depth):
+        return ROWS_INDIVISIBLE
     return ACCEPTED if kernel in KERNELS else BAD_KERNEL
 
 
@@ -67,7 +74,7 @@ def is_slot_lawful(slot: int, bin_size: int, depth: int) -> bool:
 
 
 def settings_refusal(settings: Settings) -> int:
-    """Refusal 1, then 2, then 3, or 0."""
+    """The shape's first refusal, then 3, or 0."""
     assert len(settings.bins) == BIN_SLOTS
     refusal = shape_refusal(settings.columns, settings.rows, settings.depth, settings.kernel)
     if refusal != ACCEPTED:
@@ -95,12 +102,13 @@ def total_nodes(columns: int, rows: int, depth: int) -> int:
 def deepest_depth(columns: int, rows: int) -> tuple[int, int]:
     """Refusal (1 on size only, or 0) and the largest lawful depth (0 if refused)."""
     if not is_size_lawful(columns, rows):
-        return BAD_SHAPE, 0
-    return ACCEPTED, max(depth for depth in range(LARGEST_DEPTH + 1) if is_depth_lawful(columns, rows, depth))
+        return BAD_SIZE, 0
+    return ACCEPTED, max(depth for depth in range(LARGEST_DEPTH + 1)
+                         if is_divisible(columns, depth) and is_divisible(rows, depth))
 
 
 def bounds(settings: Settings) -> tuple[int, list[int]]:
-    """Refusal (1 to 3, or 0) and the bounds of levels 0 to N (none if refused).
+    """Refusal (the settings' first, or 0) and the bounds of levels 0 to N (none if refused).
 
     At the top the bound is bin // 2. Below it is the multiplier times the bound of the level above, rounded up to a
     whole number, plus bin // 2.
