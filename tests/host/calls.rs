@@ -52,9 +52,55 @@ fn sizes(t: &mut Tally) {
     t.equal("deepest of 97 by 97", lepsarvu::deepest_depth(97, 97), Ok(5));
     t.equal("deepest of 2 by 129", lepsarvu::deepest_depth(2, 129), Ok(0));
     t.equal("deepest of 1 by 2", lepsarvu::deepest_depth(1, 2), refused(1));
-    t.equal("four columns", lepsarvu::total_nodes(&Settings { columns: 4, ..PIECE_A }), refused(1));
     t.equal("kernel 7", lepsarvu::level_bounds(&Settings { kernel: 7, ..PIECE_A }), refused(2));
     t.equal("no bin", lepsarvu::file_size(&Settings { bins: [0; 7], ..PIECE_A }), refused(3));
+}
+
+/// Columns, rows and depths, and the number that tells which of them is at fault.
+pub const SHAPES: [(u16, u16, u16, u16); 10] = [
+    (1, 3, 1, 1),
+    (130, 3, 1, 1),
+    (3, 1, 1, 1),
+    (3, 130, 1, 1),
+    (4, 3, 1, 14),
+    (3, 4, 1, 15),
+    (4, 4, 1, 14),
+    (129, 129, 7, 13),
+    (4, 4, 7, 13),
+    (1, 3, 7, 1),
+];
+
+/// Piece A's file with another shape.
+pub fn file_of(columns: u16, rows: u16, depth: u16) -> [u8; FILE.len()] {
+    let mut file = FILE;
+    for (at, number) in [columns, rows, depth].iter().enumerate() {
+        file[2 + 2 * at..4 + 2 * at].copy_from_slice(&number.to_le_bytes());
+    }
+    file
+}
+
+/// Every function tells which size is at fault, and changes nothing.
+fn refuse_shapes(t: &mut Tally) {
+    for (columns, rows, depth, number) in SHAPES {
+        let s = Settings { columns, rows, depth, ..PIECE_A };
+        let (mut b, shaped) = (Buffers::new(NODES), Lent::of(&file_of(columns, rows, depth)));
+        let (indices, mut file, mut levels) = (Lent::of(&INDICES), Lent::of(&[0xEE; 60]), Lent::of(&[99; NODES]));
+        b.settings = Lent::of(&[s]);
+        let found = [
+            lepsarvu::total_nodes(&s).err(),
+            lepsarvu::level_bounds(&s).err(),
+            lepsarvu::file_size(&s).err(),
+            b.code(0, 0, 0).err(),
+            b.rebuild(0).err(),
+            lepsarvu::write_file(&Note { settings: s, ..NOTE }, indices.part(), file.part_mut()).err(),
+            lepsarvu::check_file(shaped.part()).err(),
+            lepsarvu::read_file(shaped.part(), levels.part_mut()).err(),
+        ];
+        let name = format!("{columns} by {rows}, depth {depth}");
+        t.equal(&name, found, [Some(Refused(number)); 8]);
+        let kept = [b.kept(), indices.kept(), file.kept(), levels.kept(), shaped.kept()];
+        t.equal(&format!("{name}: unchanged"), kept, [true; 5]);
+    }
 }
 
 /// The buffers of a coding and a rebuilding, and the settings, between guards.
@@ -186,7 +232,7 @@ fn read(t: &mut Tally) {
 
 fn main() {
     let mut t = Tally::default();
-    for part in [sizes, code_and_rebuild, refuse_buffers, write, read, calls_raw::all] {
+    for part in [sizes, refuse_shapes, code_and_rebuild, refuse_buffers, write, read, calls_raw::all] {
         part(&mut t);
     }
     println!("{} passed, {} failed", t.passed, t.failed);

@@ -2,7 +2,7 @@
 //! stands between guards here too.
 
 use crate::lent::Lent;
-use crate::{Tally, FILE, INDICES, NODES, PICTURE, PIECE_A, SHOWN};
+use crate::{file_of, Tally, FILE, INDICES, NODES, PICTURE, PIECE_A, SHAPES, SHOWN};
 
 extern "C" {
     fn lepsarvu_coding(
@@ -108,6 +108,43 @@ fn sizes(t: &mut Tally, it: &mut Things) {
     t.equal("raw bounds", it.bounds.part(), &[7, 2, 0, 0, 0, 0, 0][..]);
 }
 
+/// Every function tells which size is at fault, and changes nothing.
+fn refuse_shapes(t: &mut Tally, it: &mut Things) {
+    for (columns, rows, depth, number) in SHAPES {
+        let bins = it.bins.pointer();
+        let mut file = Lent::of(&file_of(columns, rows, depth));
+        let found = unsafe {
+            [
+                lepsarvu_total_nodes(columns, rows, depth, 4, bins, it.number.pointer()),
+                lepsarvu_level_bounds(columns, rows, depth, 4, bins, it.bounds.pointer()),
+                lepsarvu_file_size(columns, rows, depth, 4, bins, it.size.pointer()),
+                lepsarvu_coding(
+                    columns, rows, depth, 4, bins, it.picture.pointer(), 9, it.levels.pointer(), NODES,
+                    it.work.pointer(), NODES,
+                ),
+                lepsarvu_rebuilding(
+                    columns, rows, depth, 4, bins, it.levels.pointer(), NODES, it.picture.pointer(), 9,
+                    it.work.pointer(), NODES,
+                ),
+                lepsarvu_write_file(
+                    columns, rows, depth, 4, bins, 1, 0x40D00000, 0, 0, it.levels.pointer(), NODES,
+                    it.file.pointer(), FILE.len(), it.size.pointer(),
+                ),
+                lepsarvu_check_file(
+                    file.pointer(), FILE.len(), it.shape.pointer(), it.read_bins.pointer(), it.kinds.pointer(),
+                    it.numbers.pointer(),
+                ),
+                lepsarvu_read_file(
+                    file.pointer(), FILE.len(), it.levels.pointer(), NODES, it.shape.pointer(),
+                    it.read_bins.pointer(), it.kinds.pointer(), it.numbers.pointer(),
+                ),
+            ]
+        };
+        let name = format!("raw {columns} by {rows}, depth {depth}");
+        t.equal(&name, (found, it.changed(), file.kept()), ([number; 8], vec![], true));
+    }
+}
+
 fn code_and_rebuild(t: &mut Tally, it: &mut Things) {
     for (places, answer) in [(NODES - 1, 7), (NODES, 0)] {
         let changed = |names| if answer == 0 { names } else { vec![] };
@@ -182,7 +219,7 @@ fn notice(t: &mut Tally) {
 pub fn all(t: &mut Tally) {
     let mut it = Things::new();
     notice(t);
-    for part in [sizes, code_and_rebuild, write, read] {
+    for part in [sizes, refuse_shapes, code_and_rebuild, write, read] {
         part(t, &mut it);
     }
 }

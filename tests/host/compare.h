@@ -24,6 +24,7 @@ void compare_coding(struct run *run, const struct settings *s);
 void compare_rebuilding(struct run *run, const struct settings *s);
 void compare_writing(struct run *run, const struct settings *s);
 void compare_reading(struct run *run);
+void compare_reading_shape(struct run *run, const struct settings *s);
 
 /* A level buffer of so many indices between guards: coded ones if there are as many, or drawn ones. */
 const int16_t *lend_levels(struct run *run, const struct settings *s, struct lent *levels, size_t length);

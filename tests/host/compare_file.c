@@ -72,12 +72,22 @@ static void compare_read(struct run *run, struct lent *file, size_t indices)
     count(&run->tally, READ_FILE, answers[0], passed);
 }
 
-void compare_reading(struct run *run)
+static void compare_both(struct run *run, const uint8_t *drawn, size_t length)
 {
-    static uint8_t drawn[MOST_DRAWN_FILE];
     static struct lent file;
-    size_t length = draw_file(&run->draw, run->most_side, drawn);
     lend_copy(&file, drawn, length, &run->draw);
     compare_check(run, &file);
     compare_read(run, &file, draw_length(&run->draw, shape_nodes(drawn, length)));
+}
+
+void compare_reading(struct run *run)
+{
+    static uint8_t drawn[MOST_DRAWN_FILE];
+    compare_both(run, drawn, draw_file(&run->draw, run->most_side, drawn));
+}
+
+void compare_reading_shape(struct run *run, const struct settings *s)
+{
+    static uint8_t drawn[MOST_DRAWN_FILE];
+    compare_both(run, drawn, draw_file_of_shape(&run->draw, run->most_side, s, drawn));
 }

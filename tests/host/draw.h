@@ -42,6 +42,10 @@ struct reading draw_lawful_reading(struct seeded *draw);
 /* A whole or damaged file; answers its length. */
 size_t draw_file(struct seeded *draw, uint32_t most_side, uint8_t file[MOST_DRAWN_FILE]);
 
+/* The same with the shape section of these settings, which the others don't fit; now and then nothing follows it. */
+size_t draw_file_of_shape(struct seeded *draw, uint32_t most_side, const struct settings *s,
+                          uint8_t file[MOST_DRAWN_FILE]);
+
 /* The nodes of the shape that the file's first bytes hold, if it is lawful. */
 size_t shape_nodes(const uint8_t *file, size_t length);
 

@@ -3,6 +3,8 @@
 
 #include "draw.h"
 
+enum { SHAPE_BYTES = 10 };
+
 struct reading draw_lawful_reading(struct seeded *draw)
 {
     switch (below(draw, 3)) {
@@ -98,10 +100,22 @@ size_t draw_file(struct seeded *draw, uint32_t most_side, uint8_t file[MOST_DRAW
     }
 }
 
+size_t draw_file_of_shape(struct seeded *draw, uint32_t most_side, const struct settings *s,
+                          uint8_t file[MOST_DRAWN_FILE])
+{
+    const uint16_t item[4] = {s->columns, s->rows, s->depth, s->kernel};
+    size_t length = draw_file(draw, most_side, file);
+    for (int at = 0; at < 4; at++) {
+        file[2 + 2 * at] = (uint8_t)(item[at] & 255);
+        file[3 + 2 * at] = (uint8_t)(item[at] >> 8);
+    }
+    return length > SHAPE_BYTES && once_in(draw, 4) ? SHAPE_BYTES : length;
+}
+
 size_t shape_nodes(const uint8_t *file, size_t length)
 {
     uint16_t item[4] = {0, 0, 0, 0};
-    for (int at = 0; length >= 10 && at < 4; at++)
+    for (int at = 0; length >= SHAPE_BYTES && at < 4; at++)
         item[at] = (uint16_t)(file[2 + 2 * at] | file[3 + 2 * at] << 8);
     struct settings s = {item[0], item[1], item[2], item[3], {0}};
     return nodes_of(&s);

@@ -1,5 +1,5 @@
-/* Coding, rebuilding, bounds, deepest depth and number of nodes in plain C, written from document 01 and Burt and
- * Adelson (1983) alone. Nothing here is made fast: every rule is written the way the papers print it. */
+/* Coding, rebuilding, bounds, deepest depth and number of nodes in plain C, written from document 01, P1 of document 02
+ * and Burt and Adelson (1983) alone. Nothing here is made fast: every rule is written the way the papers print it. */
 #include "plain.h"
 
 enum { SLOTS = 7, MOST_DEPTH = 6, LEAST_SIDE = 2, MOST_SIDE = 129, SHARE = 400 };
@@ -36,20 +36,25 @@ static int size_ok(int64_t columns, int64_t rows)
     return columns >= LEAST_SIDE && columns <= MOST_SIDE && rows >= LEAST_SIDE && rows <= MOST_SIDE;
 }
 
-/* Settings: N is 0 to 6 and 2^N divides both C - 1 and R - 1. */
-static int depth_ok(int64_t columns, int64_t rows, int64_t depth)
+/* Settings: 2^N divides a side less 1. N is 0 to 6. */
+static int divides(int64_t depth, int64_t side)
 {
-    if (depth < 0 || depth > MOST_DEPTH)
-        return 0;
     int64_t power = (int64_t)1 << depth;
-    return (columns - 1) % power == 0 && (rows - 1) % power == 0;
+    return (side - 1) % power == 0;
 }
 
-/* Refusals 1 (size, depth or divisibility) and 2 (k is not 3 to 6), lowest first. */
+/* Refusals 1 (C or R is not 2 to 129), 13 (N is above 6), 14 (2^N does not divide C - 1), 15 (2^N does not divide
+ * R - 1) and 2 (k is not 3 to 6), in this order. */
 uint16_t plain_shape_refusal(int64_t columns, int64_t rows, int64_t depth, int64_t kernel)
 {
-    if (!size_ok(columns, rows) || !depth_ok(columns, rows, depth))
+    if (!size_ok(columns, rows))
         return 1;
+    if (depth > MOST_DEPTH)
+        return 13;
+    if (!divides(depth, columns))
+        return 14;
+    if (!divides(depth, rows))
+        return 15;
     if (kernel < 3 || kernel > 6)
         return 2;
     return 0;
@@ -61,7 +66,7 @@ int plain_bin_ok(int64_t bin)
     return bin >= 1 && bin <= 255;
 }
 
-/* Refusals 1, 2 and 3 (slots 0 to N hold lawful bins, slots above N hold 0), lowest first. */
+/* The shape's refusals, then 3 (slots 0 to N hold lawful bins, slots above N hold 0). */
 uint16_t plain_settings_refusal(int64_t columns, int64_t rows, int64_t depth, int64_t kernel, const uint16_t *bins)
 {
     uint16_t refusal = plain_shape_refusal(columns, rows, depth, kernel);
@@ -79,7 +84,7 @@ int plain_value_ok(int64_t index, int64_t bin)
     return index * bin >= -MOST_VALUE && index * bin <= MOST_VALUE;
 }
 
-/* Refusals 5 (picture not C x R), 6 (level buffer not T) and 7 (work buffer below T), lowest first. */
+/* Refusals 5 (picture not C x R), 6 (level buffer not T) and 7 (work buffer below T), in this order. */
 static uint16_t lengths_refusal(int64_t columns, int64_t rows, int64_t depth, size_t picture_length,
                                 size_t levels_length, size_t work_length)
 {
@@ -281,12 +286,12 @@ static uint16_t deepest_depth(uint16_t columns, uint16_t rows, uint16_t *depth)
     if (!size_ok(columns, rows))
         return 1;
     for (uint16_t n = 0; n <= MOST_DEPTH; n++)
-        if (depth_ok(columns, rows, n))
+        if (divides(n, columns) && divides(n, rows))
             *depth = n;
     return 0;
 }
 
-/* Settings: T, for lawful settings. Refusals 1, 2, 3. */
+/* Settings: T, for lawful settings, and the settings' refusals. */
 static uint16_t total_nodes(uint16_t columns, uint16_t rows, uint16_t depth, uint16_t kernel,
                             const uint16_t bins[7], uint16_t *nodes)
 {

@@ -1,5 +1,5 @@
-/* The calls of include/lepsarvu.h in plain C, written from document 01 and Burt and Adelson (1983): slow, 64-bit,
- * the 25 products of each node added up one by one. */
+/* The calls of include/lepsarvu.h in plain C, written from document 01, P1 of document 02 and Burt and Adelson (1983):
+ * slow, 64-bit, the 25 products of each node added up one by one. */
 #ifndef HOST_PLAIN_H
 #define HOST_PLAIN_H
 

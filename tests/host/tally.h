@@ -18,7 +18,7 @@ enum function {
     FUNCTIONS
 };
 
-enum { ANSWERS = 13, SHOWN_FAILURES = 20 };
+enum { ANSWERS = 16, SHOWN_FAILURES = 20 };
 
 struct tally {
     uint64_t number; /* of the case at hand */
@@ -59,10 +59,25 @@ static inline void print_answers(const struct tally *it)
     }
 }
 
-/* Every answer that the header lists for a function must have been given. */
+/* Sets of answers, a bit for each: acceptance and the settings' refusals, and with them what both readers give. */
+#define BIT(answer) (1u << (answer))
+#define OF_SETTINGS (BIT(0) | BIT(1) | BIT(13) | BIT(14) | BIT(15) | BIT(2) | BIT(3))
+#define OF_FILE (OF_SETTINGS | BIT(4) | BIT(9) | BIT(10) | BIT(11) | BIT(12))
+
+/* Every answer that the header lists for a function must have been given, and no other. */
 static inline void demand_answers(struct tally *it)
 {
-    static const uint16_t LISTED[FUNCTIONS] = {0x0EF, 0x8EF, 0x00F, 0x003, 0x00F, 0x00F, 0x95F, 0x1E5F, 0x1E1F};
+    static const uint32_t LISTED[FUNCTIONS] = {
+        [CODING] = OF_SETTINGS | BIT(5) | BIT(6) | BIT(7),
+        [REBUILDING] = OF_SETTINGS | BIT(5) | BIT(6) | BIT(7) | BIT(11),
+        [LEVEL_BOUNDS] = OF_SETTINGS,
+        [DEEPEST_DEPTH] = BIT(0) | BIT(1),
+        [TOTAL_NODES] = OF_SETTINGS,
+        [FILE_SIZE] = OF_SETTINGS,
+        [WRITE_FILE] = OF_SETTINGS | BIT(4) | BIT(6) | BIT(8) | BIT(11),
+        [READ_FILE] = OF_FILE | BIT(6),
+        [CHECK_FILE] = OF_FILE,
+    };
     for (int function = 0; function < FUNCTIONS; function++)
         for (int answer = 0; answer < ANSWERS; answer++)
             if ((it->answers[function][answer] != 0) != (LISTED[function] >> answer & 1)) {
