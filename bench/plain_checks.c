@@ -3,11 +3,15 @@
 
 uint16_t fast_shape_refusal(uint16_t columns, uint16_t rows, uint16_t depth, uint16_t kernel)
 {
-    if (columns < 2 || columns > MOST_SIDE || rows < 2 || rows > MOST_SIDE || depth >= SLOTS)
+    if (columns < 2 || columns > MOST_SIDE || rows < 2 || rows > MOST_SIDE)
         return 1;
+    if (depth >= SLOTS)
+        return 13;
     unsigned low_bits = (1u << depth) - 1;
-    if ((((unsigned)columns - 1) & low_bits) || (((unsigned)rows - 1) & low_bits))
-        return 1;
+    if (((unsigned)columns - 1) & low_bits)
+        return 14;
+    if (((unsigned)rows - 1) & low_bits)
+        return 15;
     return kernel < 3 || kernel > 6 ? 2 : 0;
 }
 
