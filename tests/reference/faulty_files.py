@@ -23,16 +23,16 @@ def wrong_shapes() -> list[Case]:
     """Sizes, depths and kernels of a 3 by 3 picture at depth 1 that break the settings rules: one number changed."""
     outside = [(changed(place, number(value)), 1) for place in (COLUMNS_AT, ROWS_AT)
                for value in (0, 1, 130, 131, 259, 65535)]
-    uneven = [(changed(place, number(value)), answer) for place, answer in ((COLUMNS_AT, 14), (ROWS_AT, 15))
-              for value in (2, 4, 128)]
-    # 4 and more divide neither 3 - 1; the columns go first.
+    indivisible = [(changed(place, number(value)), answer) for place, answer in ((COLUMNS_AT, 14), (ROWS_AT, 15))
+                   for value in (2, 4, 128)]
+    # 4 divides neither C - 1 nor R - 1, which are both 2, and the columns go first; above 6 it does not matter.
     depths = [(changed(DEPTH_AT, number(value)), answer) for value, answer in
               ((2, 14), (3, 14), (6, 14), (7, 13), (8, 13), (257, 13), (65535, 13))]
     kernels = [(changed(KERNEL_AT, number(value)), 2) for value in (0, 1, 2, 7, 260, 65535)]
     # A lawful shape that the later counts do not fit.
     lawful = [(changed(place, number(value)), 10) for place, value in ((COLUMNS_AT, 5), (ROWS_AT, 129), (DEPTH_AT, 0))]
     kernels_right = [(changed(KERNEL_AT, number(value)), 0) for value in (3, 4, 5, 6)]
-    return outside + uneven + depths + kernels + lawful + kernels_right
+    return outside + indivisible + depths + kernels + lawful + kernels_right
 
 
 def broken_shapes() -> list[Case]:
