@@ -1,16 +1,16 @@
-// Every set of faults, each fault in four variants: the lowest number is the answer.
+// Every set of faults, each fault in four variants: the first number of the set is the answer.
 use crate::base::BASE;
 use crate::calling;
 use crate::calling::Lengths;
 use crate::calling::Put;
+use test_support::faults::first_of;
 use test_support::faults::has;
-use test_support::faults::lowest;
 use test_support::faults::with_faults;
 use test_support::reporting;
 use test_support::reporting::Tally;
 
 // The numbers of the faults in their order. Coding does not look for the last.
-const NUMBERS: [u16; 7] = [1, 2, 3, 5, 6, 7, 11];
+const NUMBERS: [u16; 10] = [1, 13, 14, 15, 2, 3, 5, 6, 7, 11];
 
 fn picture_length(is_faulty: bool, variant: u32) -> usize {
     if is_faulty {
@@ -78,10 +78,10 @@ fn check_set(call: u16, faults: u32, variant: u32, table: &[u16]) -> bool {
         work: work_length(has(faults, table, 7), variant),
     };
     let put = put(has(faults, table, 11), variant);
-    calling::gives(call, s, n, put, lowest(faults, table))
+    calling::gives(call, s, n, put, first_of(faults, table))
 }
 
-// The first sets of faults, four checks a set: 64 sets that coding looks for, 128 that rebuilding looks for.
+// The first sets of faults, four checks a set: 512 sets that coding looks for, 1,024 that rebuilding looks for.
 pub(crate) fn all(call: u16, checks: u32) -> Tally {
     let table = NUMBERS;
     let mut u = reporting::empty();

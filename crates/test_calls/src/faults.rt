@@ -82,10 +82,38 @@ pub(crate) fn answered(t: Tally, s: Settings, answer: u16, bounds: [u16; 7]) -> 
     shapes::answered(u, s, answer)
 }
 
+// The answer to another C or R than 9 and 5: no other that is tried is a multiple of 4 and 1 more.
+fn answer_to_side(value: u16, undivided: u16) -> u16 {
+    if 2 <= value && value <= 129 {
+        return undivided;
+    }
+    1
+}
+
+// The answer to another N than 2: of C - 1, 8, and R - 1, 4, it is R - 1 that 2 to the third does not divide.
+fn answer_to_depth(value: u16) -> u16 {
+    if 6 < value {
+        return 13;
+    }
+    if 3 < value {
+        return 14;
+    }
+    15
+}
+
 // The answer to a setting in place of the lawful one: 9 by 5, N = 2. No other C, R or N that is tried is lawful.
 fn answer_to(setting: u16, value: u16) -> u16 {
-    if setting < KERNEL {
-        return 1;
+    match setting {
+        COLUMNS => {
+            return answer_to_side(value, 14);
+        }
+        ROWS => {
+            return answer_to_side(value, 15);
+        }
+        DEPTH => {
+            return answer_to_depth(value);
+        }
+        _ => {}
     }
     if setting == KERNEL {
         if 3 <= value && value <= 6 {
@@ -162,7 +190,7 @@ pub(crate) fn all() -> Tally {
     let mut u = reporting::empty();
     u = each(u, COLUMNS, &[0, 1, 130, 133, 257, 65535, 8, 10, 7, 11]);
     u = each(u, ROWS, &[0, 1, 130, 133, 257, 65535, 4, 6, 7, 3]);
-    u = each(u, DEPTH, &[3, 6, 7, 8, 16, 65535]);
+    u = each(u, DEPTH, &[3, 4, 6, 7, 8, 16, 32, 65535]);
     u = each(u, KERNEL, &[0, 1, 2, 3, 4, 5, 6, 7, 8, 65535]);
     each_slot(u)
 }

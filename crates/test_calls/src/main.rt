@@ -33,6 +33,6 @@ fn main() {
     report(6, faults::all());
     report(7, shapes::ranges());
     report(8, lengths::all());
-    report(9, combinations::all(CODING, 256));
-    report(10, combinations::all(REBUILDING, 512));
+    report(9, combinations::all(CODING, 2048));
+    report(10, combinations::all(REBUILDING, 4096));
 }

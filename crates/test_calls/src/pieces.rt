@@ -129,13 +129,26 @@ fn smallest(t: Tally) -> Tally {
     checked(u, calling::gives(REBUILDING, s, four, put, 0))
 }
 
-// C or R of 1 or 130; C = 4 with N = 1; the smallest picture.
+// A size and a depth that are refused.
+fn size_refused(t: Tally, columns: u16, rows: u16, depth: u16, answer: u16) -> Tally {
+    faults::answered(t, settings(columns, rows, depth, 4, 1, 1), answer, [0; 7])
+}
+
+// C or R of 1 or 130; C = 4, R = 4 or both with N = 1; N = 7, whatever divides, and with C or R of 1; the smallest picture.
 pub(crate) fn sizes() -> Tally {
-    let mut u = faults::answered(empty(), settings(1, 3, 0, 4, 1, 0), 1, [0; 7]);
-    u = faults::answered(u, settings(130, 3, 0, 4, 1, 0), 1, [0; 7]);
-    u = faults::answered(u, settings(3, 1, 0, 4, 1, 0), 1, [0; 7]);
-    u = faults::answered(u, settings(3, 130, 0, 4, 1, 0), 1, [0; 7]);
-    u = faults::answered(u, settings(4, 3, 1, 4, 1, 1), 1, [0; 7]);
+    let mut u = size_refused(empty(), 1, 3, 1, 1);
+    u = size_refused(u, 130, 3, 1, 1);
+    u = size_refused(u, 3, 1, 1, 1);
+    u = size_refused(u, 3, 130, 1, 1);
+    u = size_refused(u, 4, 3, 1, 14);
+    u = size_refused(u, 3, 4, 1, 15);
+    u = size_refused(u, 4, 4, 1, 14);
+    u = size_refused(u, 129, 129, 7, 13);
+    u = size_refused(u, 128, 129, 7, 13);
+    u = size_refused(u, 129, 128, 7, 13);
+    u = size_refused(u, 3, 3, 7, 13);
+    u = size_refused(u, 1, 129, 7, 1);
+    u = size_refused(u, 129, 1, 7, 1);
     smallest(u)
 }
 

@@ -6,6 +6,7 @@ use crate::lent::TALL;
 use crate::parts;
 use crate::parts::Readings;
 use crate::writing;
+use pyramid::Settings;
 use test_support::comparing;
 use test_support::comparing::least;
 use test_support::decoding;
@@ -63,12 +64,9 @@ pub(crate) fn written() -> Tally {
 }
 
 // Settings that are refused, with a reading that would be.
-fn unset_written(t: Tally, columns: u16, kernel: u16, bin: u16, refusal: u16) -> Tally {
+fn unset_written(t: Tally, s: Settings, refusal: u16) -> Tally {
     let levels = SMALL_LEVELS;
     let file = small_file();
-    let mut s = parts::small(bin);
-    s.columns = columns;
-    s.kernel = kernel;
     let r = parts::note(3, 0, 1, 0);
     checked(
         t,
@@ -76,12 +74,28 @@ fn unset_written(t: Tally, columns: u16, kernel: u16, bin: u16, refusal: u16) ->
     )
 }
 
+// A size and a depth, with a lawful kernel and bin or without.
+fn sized(columns: u16, rows: u16, depth: u16, kernel: u16, bin: u16) -> Settings {
+    let mut s = parts::small(bin);
+    s.columns = columns;
+    s.rows = rows;
+    s.depth = depth;
+    s.kernel = kernel;
+    s
+}
+
 pub(crate) fn unset() -> Tally {
-    let mut u = unset_written(empty(), 1, 5, 7, 1);
-    u = unset_written(u, 1, 2, 0, 1);
-    u = unset_written(u, 3, 2, 0, 2);
-    u = unset_written(u, 3, 5, 0, 3);
-    unset_written(u, 3, 5, 256, 3)
+    let mut u = unset_written(empty(), sized(1, 2, 0, 5, 7), 1);
+    u = unset_written(u, sized(1, 2, 7, 2, 0), 1);
+    u = unset_written(u, sized(3, 2, 7, 5, 7), 13);
+    u = unset_written(u, sized(4, 4, 7, 2, 0), 13);
+    u = unset_written(u, sized(4, 3, 1, 5, 7), 14);
+    u = unset_written(u, sized(4, 4, 1, 2, 0), 14);
+    u = unset_written(u, sized(3, 4, 1, 5, 7), 15);
+    u = unset_written(u, sized(3, 4, 1, 2, 0), 15);
+    u = unset_written(u, sized(3, 2, 0, 2, 0), 2);
+    u = unset_written(u, sized(3, 2, 0, 5, 0), 3);
+    unset_written(u, sized(3, 2, 0, 5, 256), 3)
 }
 
 // What the reader is to hand out of a file with the small one's parts.
@@ -145,6 +159,9 @@ pub(crate) fn small() -> Tally {
     u = small_read(u, 40, 0, 5, 10);
     u = small_read(u, 40, 2, 1, 1);
     u = small_read(u, 40, 4, 130, 1);
+    u = small_read(u, 40, 6, 7, 13);
+    u = small_read(u, 40, 6, 2, 14);
+    u = small_read(u, 40, 6, 1, 15);
     u = small_read(u, 40, 8, 7, 2);
     u = small_read(u, 40, 10, 2, 10);
     u = small_read(u, 40, 12, 0, 3);

@@ -25,11 +25,21 @@ pub(crate) const BEFORE: u16 = 60001;
 // What lent bounds hold before a call.
 pub(crate) const BOUNDS_BEFORE: [u16; 7] = [60011, 60012, 60013, 60014, 60015, 60016, 60017];
 
-// Settings with one fault, which the refusal names: rows, a kernel, or the bin of level 0. With 0 they are lawful.
+// Settings with one fault, which the refusal names: a side of 130, a depth of 7, columns or rows that 2 to the depth does not divide less 1, a
+// kernel, or the bin of level 0. With 0 they are lawful.
 pub(crate) fn faulty(s: Settings, refusal: u16) -> Settings {
     let mut u = s;
     match refusal {
         1 => {
+            u.rows = 130;
+        }
+        13 => {
+            u.depth = 7;
+        }
+        14 => {
+            u.columns = 8;
+        }
+        15 => {
             u.rows = 8;
         }
         2 => {

@@ -6,6 +6,7 @@ mod limits;
 mod numbers;
 mod parts;
 mod pictures;
+mod refusals;
 mod writing;
 
 use test_support::reporting;
@@ -27,7 +28,7 @@ fn main() {
     report(3, numbers::refusals());
     report(4, pictures::accepted());
     report(5, pictures::limits());
-    report(6, pictures::refusals());
+    report(6, refusals::all());
     report(7, files::written());
     report(8, files::unset());
     report(9, files::small());

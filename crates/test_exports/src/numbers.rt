@@ -99,11 +99,16 @@ fn refused(t: Tally, s: Settings, refusal: u16) -> Tally {
     bounds(u, s, refusal, BOUNDS_BEFORE)
 }
 
+// Settings with each fault in turn.
+fn refused_each(t: Tally, s: Settings) -> Tally {
+    let mut u = refused(t, faulty(s, 1), 1);
+    u = refused(u, faulty(s, 13), 13);
+    u = refused(u, faulty(s, 14), 14);
+    u = refused(u, faulty(s, 15), 15);
+    u = refused(u, faulty(s, 2), 2);
+    refused(u, faulty(s, 3), 3)
+}
+
 pub(crate) fn refusals() -> Tally {
-    let mut u = refused(empty(), faulty(TALL, 1), 1);
-    u = refused(u, faulty(TALL, 2), 2);
-    u = refused(u, faulty(TALL, 3), 3);
-    u = refused(u, faulty(WIDE, 1), 1);
-    u = refused(u, faulty(WIDE, 2), 2);
-    refused(u, faulty(WIDE, 3), 3)
+    refused_each(refused_each(empty(), TALL), WIDE)
 }

@@ -1,11 +1,11 @@
-// Every set of the faults that the writer looks for, each fault in four variants: the lowest number is the answer.
+// Every set of the faults that the writer looks for, each fault in four variants: the first number of the set is the answer.
 use crate::piece_a;
 use crate::writers;
 use bale::Note;
 use bale::Reading;
 use pyramid::Settings;
+use test_support::faults::first_of;
 use test_support::faults::has;
-use test_support::faults::lowest;
 use test_support::faults::with_faults;
 use test_support::reporting;
 use test_support::reporting::Finding;
@@ -15,8 +15,8 @@ use test_support::reporting::either;
 ghost use mathlib.Core.Path.{_≡_};
 ghost use lib.ListN.{length};
 
-// The numbers of the faults in their order.
-const NUMBERS: [u16; 7] = [1, 2, 3, 4, 6, 8, 11];
+// The numbers of the faults in their order: six of the settings, which have the lowest bits of a set, then the writer's own.
+const NUMBERS: [u16; 10] = [1, 13, 14, 15, 2, 3, 4, 6, 8, 11];
 
 // A percentage above 100 or below 0, and a fault code of 0 or above 255.
 fn faulty_note(variant: u32) -> Note {
@@ -83,12 +83,12 @@ fn lent_room(is_faulty: bool, variant: u32) -> usize {
     58
 }
 
-// The size of a file of settings with those of the faults that are the settings': they are the lowest.
+// The size of a file of settings with those of the faults that are the settings'.
 fn check_size(answer: u16, s: Settings) -> Finding {
-    if 1 <= answer && answer <= 3 {
-        return writers::check_size(s, answer, 0);
+    if answer == 0 {
+        return writers::check_size(s, 0, 58);
     }
-    writers::check_size(s, 0, 58)
+    writers::check_size(s, answer, 0)
 }
 
 // Lends the first places of the levels and the first bytes of a buffer.
@@ -102,7 +102,7 @@ fn check_lent(answer: u16, faults: u32, variant: u32, table: &[u16], levels: &[i
         return difference(reporting::CASE_CUT, n);
     }
     let written = writers::check_writing(answer, s, note, levels, &file, &mut out[0..n]);
-    either(check_size(answer, s), written)
+    either(check_size(first_of(faults % 64, table), s), written)
 }
 
 fn check_set(faults: u32, variant: u32, table: &[u16]) -> Finding {
@@ -111,15 +111,21 @@ fn check_set(faults: u32, variant: u32, table: &[u16]) -> Finding {
     if 14 < p {
         return difference(reporting::CASE_CUT, p);
     }
-    check_lent(lowest(faults, table), faults, variant, table, &levels[0..p])
+    check_lent(
+        first_of(faults, table),
+        faults,
+        variant,
+        table,
+        &levels[0..p],
+    )
 }
 
-// The 128 sets.
+// The 1,024 sets.
 pub(crate) fn check_all() -> Tally {
     let table = NUMBERS;
     let mut tally = reporting::empty();
     let mut i: u32 = 0;
-    while i < 512 {
+    while i < 4096 {
         tally = reporting::counted(tally, check_set(i / 4, i % 4, &table));
         i += 1;
     }

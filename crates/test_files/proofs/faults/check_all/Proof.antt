@@ -8,7 +8,7 @@ abbrev Inv-loop : tie.InvT-loop
 Inv-loop table tally₀ i₀ tally i = Unit {0}
 
 abbrev μ-loop : tie.MeasureT-loop
-μ-loop table tally₀ i₀ tally i = 512 - i
+μ-loop table tally₀ i₀ tally i = 4096 - i
 
 empty-requires : tie.Need-empty-requires Inv-loop μ-loop
 empty-requires c κs = search needs

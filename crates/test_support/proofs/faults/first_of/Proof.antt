@@ -1,12 +1,12 @@
--- `test_support::faults::lowest` meets its contract: the numbers before place i are not in the set. Assumes nothing.
+-- `test_support::faults::first_of` meets its contract: the numbers before place i are not in the set. Assumes nothing.
 use mathlib.Core.Path.{_≡_, refl, sym, ap, _∙_}
 use Prim.Native.Nat.{_-_}
 use lib.ListN.{length, drop}
 use borrow.Author.Needs.{needs}
 use Rattle.test_support.specs.Definitions.FaultSets.{chosen, first}
 use Rattle.test_support.proofs.Choosing.{chosen-past, chosen-in, chosen-out}
-use Rattle.test_support.proofs.faults.lowest.Statement.{statement}
-use Rattle.test_support.proofs.faults.lowest.Tie as tie
+use Rattle.test_support.proofs.faults.first_of.Statement.{statement}
+use Rattle.test_support.proofs.faults.first_of.Tie as tie
 
 abbrev Inv-loop : tie.InvT-loop
 Inv-loop faults table bits₀ i₀ bits i = chosen bits (drop i table) ≡ chosen faults table
@@ -40,8 +40,8 @@ returns-2 : tie.Need-returns-2 Inv-loop μ-loop
 unfolding first
 returns-2 c = ap first (sym (chosen-past _ _ _ (c .loop-test .left)) ∙ c .before .loop .inv)
 
-pub lowest-spec : {M : Type 1} → statement M
-lowest-spec =
+pub first-of-spec : {M : Type 1} → statement M
+first-of-spec =
     tie.close
     (tie.spec
     Inv-loop
