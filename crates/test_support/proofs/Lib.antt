@@ -3,3 +3,4 @@ mod Numbers
 mod Filled
 mod Choosing
 mod Variants
+mod FaultySettings
