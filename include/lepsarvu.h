@@ -1,4 +1,4 @@
-/* Lepsarvu: the lint picture pyramid and its bale file, for controllers that link target/staticlib/liblepsarvu.a.
+/* Lepsarvu: the lint picture pyramid, its bale file and PGM pictures, for controllers that link target/staticlib/liblepsarvu.a.
  *
  * Every function is proved for all arguments: it stays inside what it is lent, it ends, and it answers and leaves
  * exactly what docs/CLAIMS.md says. What a caller owes is only what C asks anyway: each pointer points to as many
@@ -22,6 +22,9 @@
  *   13  the depth is above 6
  *   14  2 to the depth does not divide columns - 1
  *   15  2 to the depth does not divide rows - 1
+ *   16  the header of the PGM file is bad
+ *   17  the greatest grey of the PGM file is not 255
+ *   18  the PGM file has fewer or more pixels than columns times rows
  *
  * Where several apply, the first in the order that is said beside the function is the answer.
  *
@@ -32,6 +35,11 @@
  *
  * A reading is a kind and a number: kind 0, not fitted, with number 0; kind 1, a percentage, with the bits of a 32-bit
  * float whose sign bit is clear and which is at most 100; kind 2, a fault code of 1 to 255.
+ *
+ * A PGM file is Netpbm's raw form: P5, then columns, rows and the greatest grey in decimal, one to five digits each,
+ * with white space before each and one white space byte before the pixels, which are bytes, row after row. White space
+ * is space, tab, newline or carriage return; a comment from # up to and with the next newline counts as white space
+ * before a number. It is written in a single form: P5, newline, columns, space, rows, newline, 255, newline, pixels.
  */
 #ifndef LEPSARVU_H
 #define LEPSARVU_H
@@ -47,7 +55,8 @@ enum {
     LEPSARVU_SLOTS = 7,
     LEPSARVU_MOST_NODES = 22359,
     LEPSARVU_MOST_PIXELS = 16641,
-    LEPSARVU_MOST_FILE_BYTES = 44770
+    LEPSARVU_MOST_FILE_BYTES = 44770,
+    LEPSARVU_MOST_PGM_BYTES = 16656
 };
 
 /* Codes a picture, row after row. Leaves the indices of all levels, the deepest first, in levels, and the averages of
@@ -100,6 +109,23 @@ uint16_t lepsarvu_read_file(const uint8_t *file, size_t file_length, int16_t *le
 /* The same of a file whose indices nobody asks for: no level buffer is lent, and 6 is not given. */
 uint16_t lepsarvu_check_file(const uint8_t *file, size_t file_length, uint16_t shape[4], uint16_t bins[7],
                              uint8_t kinds[2], uint32_t numbers[2]);
+
+/* Leaves in size the bytes of a PGM file, as it is written here, of a picture of this size. Refused: 1. */
+uint16_t lepsarvu_pgm_size(uint16_t columns, uint16_t rows, size_t *size);
+
+/* Writes a picture as a PGM file at the start of file, and leaves its bytes in size; bytes of file after it keep their
+ * contents. Refused: 1, 5, 8. */
+uint16_t lepsarvu_write_pgm(uint16_t columns, uint16_t rows, const uint8_t *picture, size_t picture_length,
+                            uint8_t *file, size_t file_length, size_t *size);
+
+/* Reads a PGM file. Leaves its columns and rows in columns and rows, and its pixels in picture, whose length must be
+ * columns times rows of the file. Refused: 16, 1, 17, 18, 5. */
+uint16_t lepsarvu_read_pgm(const uint8_t *file, size_t file_length, uint8_t *picture, size_t picture_length,
+                           uint16_t *columns, uint16_t *rows);
+
+/* The same of a file whose pixels nobody asks for yet: no picture is lent, and 5 is not given.
+ * Refused: 16, 1, 17, 18. */
+uint16_t lepsarvu_check_pgm(const uint8_t *file, size_t file_length, uint16_t *columns, uint16_t *rows);
 
 #ifdef __cplusplus
 }
