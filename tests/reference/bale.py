@@ -5,7 +5,7 @@ from dataclasses import dataclass
 
 from pyramid import flatten, indices_refusal, is_index_lawful, split_levels
 from settings import (ACCEPTED, BAD_BIN, BAD_COUNT, BAD_FILE_LENGTH, BAD_INDEX, BAD_LEVEL_LENGTH, BAD_READING,
-                      BIN_SLOTS, BYTES_FOLLOW, FILE_ENDS_EARLY, Settings, bounds, is_slot_lawful, level_size,
+                      BIN_SLOTS, BYTES_FOLLOW, FILE_ENDS_EARLY, Refused, Settings, bounds, is_slot_lawful, level_size,
                       node_count, settings_refusal, shape_refusal, total_nodes)
 
 # Document 01, "Bale file": counts of the first and third sections.
@@ -47,14 +47,6 @@ class Bale:
     settings: Settings = NO_SETTINGS
     note: Note = NONE_FITTED
     indices: tuple[int, ...] = ()
-
-
-class Refused(Exception):
-    """Ends a reading with a refusal number."""
-
-    def __init__(self, number: int) -> None:
-        super().__init__(number)
-        self.number = number
 
 
 # Readings, refusal 4.

@@ -15,7 +15,7 @@ LARGEST_BIN = 255
 # Document 01, "Bound": the multiplier in hundredths for each k.
 BOUND_HUNDREDTHS = {3: 100, 4: 100, 5: 100, 6: 196}
 
-# Document 01, "Who can cause which refusal", and document 02, P1. 0 is used here for an accepted call.
+# Document 01, "Who can cause which refusal", and document 02, P1 and P2. 0 is used here for an accepted call.
 ACCEPTED = 0
 BAD_SIZE = 1
 BAD_KERNEL = 2
@@ -32,6 +32,17 @@ BYTES_FOLLOW = 12
 BAD_DEPTH = 13
 COLUMNS_INDIVISIBLE = 14
 ROWS_INDIVISIBLE = 15
+BAD_HEADER = 16
+BAD_GREATEST_GREY = 17
+BAD_PIXEL_COUNT = 18
+
+
+class Refused(Exception):
+    """Ends a reading with a refusal number."""
+
+    def __init__(self, number: int) -> None:
+        super().__init__(number)
+        self.number = number
 
 
 @dataclass(frozen=True)

@@ -3,14 +3,14 @@
 import struct
 from collections.abc import Iterator
 
-from bale import Bale, FileCursor, Refused, read_bale, read_shape, write_bale
+from bale import Bale, FileCursor, read_bale, read_shape, write_bale
 from faulty_files import faulty_files
 from pictures import patterned_indices, picture_of, random_indices
 from piece_a import FILE_A
 from pyramid import code
 from random_files import damage, random_file, random_note
 from seeded import BIN_FAMILIES, SEED, Seeded, bins_of
-from settings import ACCEPTED, KERNELS, LARGEST_DEPTH, Settings, total_nodes
+from settings import ACCEPTED, KERNELS, LARGEST_DEPTH, Refused, Settings, total_nodes
 
 # Further whole sizes and depths.
 SHAPES = ((2, 3, 0), (3, 2, 0), (129, 2, 0), (2, 129, 0), (129, 3, 1), (3, 129, 1), (7, 11, 1), (13, 5, 2), (5, 21, 2),
