@@ -1,4 +1,4 @@
-"""Random cases for the host tests: settings, pictures, level buffers, files and calls, lawful and not, from a seed."""
+"""Random cases for the host tests: settings, pictures, level buffers, files, calls and PGM files, lawful and not."""
 
 import struct
 from collections.abc import Callable, Iterator
@@ -6,12 +6,14 @@ from dataclasses import replace
 
 import vectors_files
 import vectors_levels
+import vectors_pgm
 import vectors_pyramid
 from bale import Reading, file_size, write_bale
 from faulty_files import READINGS
 from pictures import PICTURE_KINDS, largest_index, patterned_indices, picture_of, random_indices
 from pyramid import code, rebuild
 from random_files import damage, random_file, random_reading
+from random_pgm import any_pgm
 from seeded import Seeded, random_settings
 from settings import Settings, bounds, deepest_depth, settings_refusal, shape_refusal, total_nodes
 
@@ -50,6 +52,11 @@ def files_case(numbers: Seeded, side: int) -> bytes:
     """A file, whole in one of three."""
     data = random_file(numbers, side)
     return vectors_files.case_bytes(data if numbers.between(0, 2) == 0 else damage(data, numbers))
+
+
+def pgm_case(numbers: Seeded, side: int) -> bytes:
+    """A PGM file, lawful in one of three."""
+    return vectors_pgm.case_bytes(any_pgm(numbers, side))
 
 
 # Calls: whether they are accepted, of settings and lengths that may be unlawful.
@@ -125,6 +132,7 @@ def calls_case(numbers: Seeded, side: int) -> bytes:
 
 CASES: dict[str, Callable[[Seeded, int], bytes]] = {
     "pyramid": pyramid_case, "levels": levels_case, "files": files_case, "calls": calls_case,
+    "pgm": pgm_case,
 }
 
 
