@@ -8,6 +8,7 @@ import sys
 
 import check_bale
 import check_calls
+import check_pgm
 import check_pieces
 import check_pyramid
 from tally import Tally
@@ -16,7 +17,7 @@ from tally import Tally
 def main() -> int:
     """Run all checks and give the exit status."""
     tally = Tally()
-    for part in (check_pieces, check_pyramid, check_calls, check_bale):
+    for part in (check_pieces, check_pyramid, check_calls, check_bale, check_pgm):
         part.run(tally)
     print(f"{tally.passed} passed, {tally.failed} failed")
     return 1 if tally.failed else 0
