@@ -59,11 +59,11 @@ def damaged_files(numbers: Seeded) -> Iterator[bytes]:
 
 
 def largest_files(numbers: Seeded) -> Iterator[bytes]:
-    """A file of the largest size, the same with its last byte missing, and with one byte more."""
+    """A file of the largest size, the same with one byte more, and one with the most columns cut by a byte."""
     data = random_header(129, 129, 255, numbers) + picture_of("noise", 129, 129, numbers)
     yield data
-    yield data[:-1]
     yield data + b"\0"
+    yield random_header(129, 9, 255, numbers) + picture_of("noise", 129, 9, numbers)[:-1]
 
 
 def cases() -> Iterator[bytes]:
