@@ -127,7 +127,8 @@ def check_reader_sets(tally: Tally) -> None:
 def check_writer_sets(tally: Tally) -> None:
     """Every set of 1, 5 and 8 is answered with its first."""
     met = set()
-    for side, other, pixels, buffer_change in product((0, 1, 2, 9, 129, 130), (1, 2, 10, 131), (-1, 0, 1, 7), (-1, 0, 1)):
+    for side, other, pixels, buffer_change in product((0, 1, 2, 9, 129, 130), (1, 2, 10, 131), (-1, 0, 1, 7),
+                                                      (-1, 0, 1)):
         for columns, rows in ((side, other), (other, side)):
             # The size is worked here from the single form, also of a side that no picture has.
             length = len(b"P5\n%d %d\n255\n" % (columns, rows)) + columns * rows + buffer_change
@@ -180,7 +181,7 @@ def check_round_trips(tally: Tally) -> None:
 # Files of other programs.
 
 def check_peers(tally: Tally) -> None:
-    """Every file that another program made is read as `answers` says; the lint of the examples is not in single form."""
+    """Every file of other programs is read as `answers` says; the lint of the examples is not in single form."""
     for peer in peer_files():
         read = check_second(tally, peer.data)
         tally.equal(peer.name, (read.refusal, read.columns, read.rows), (peer.answer, peer.columns, peer.rows))

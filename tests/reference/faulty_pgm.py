@@ -16,8 +16,9 @@ COMMENTED_HEADER = b"P5\n#a\n2 2\n255\n"
 SPACES = (b" ", b"\t", b"\n", b"\r")
 
 # Mixtures of white space and comments, each lawful before a number.
-GAPS = (b"  ", b"\r\n", b"\n\n\n", b" \t\n\r", b"#\n", b"#a\n", b" #a\n", b"#a\n ", b"\r#a\n\t", b"#a\n#b\n", b"#\n#\n#\n",
-        b"##\n", b"# 9 9 9\n", b"#P5\n", b"#a\rb\n", b"#a\r\n", b"#\0\xFF\n", b" #a\n\t#b\r\n\r", b"#" + b"x" * 300 + b"\n")
+GAPS = (b"  ", b"\r\n", b"\n\n\n", b" \t\n\r", b"#\n", b"#a\n", b" #a\n", b"#a\n ", b"\r#a\n\t", b"#a\n#b\n",
+        b"#\n#\n#\n", b"##\n", b"# 9 9 9\n", b"#P5\n", b"#a\rb\n", b"#a\r\n", b"#\0\xFF\n", b" #a\n\t#b\r\n\r",
+        b"#" + b"x" * 300 + b"\n")
 
 # The order in which the reader and the writer look for refusals.
 READER_ORDER = (16, 1, 17, 18, 5)
@@ -27,7 +28,7 @@ WRITER_ORDER = (1, 5, 8)
 def headed(gaps: tuple[bytes, ...], numbers: tuple[bytes, ...] = (b"2", b"2", b"255"), pixels: bytes = PIXELS) -> bytes:
     """A file from what stands before each number and after the last, the three numbers and the pixels."""
     parts = [b"P5"]
-    for gap, number in zip(gaps, numbers, strict=False):
+    for gap, number in zip(gaps[:-1], numbers, strict=True):
         parts += [gap, number]
     return b"".join(parts) + gaps[-1] + pixels
 
@@ -130,15 +131,16 @@ def digits() -> list[Case]:
         cases += [(spaced(zeros, b"2", b"255"), 16 if length == 6 else 1),
                   (spaced(b"2", zeros, b"255"), 16 if length == 6 else 1)]
         cases += [(spaced(b"2", b"2", text), 16 if length == 6 else 17) for text in (nines, zeros)]
-    for text in (b"", b"+2", b"-2", b"2.0", b"0x2", b"2a", b"a", b"2-", b"2,", b"/", b":", b"\xB2", b"2\0", b"000000255"):
+    for text in (b"", b"+2", b"-2", b"2.0", b"0x2", b"2a", b"a", b"2-", b"2,", b"/", b":", b"\xB2", b"2\0",
+                 b"000000255"):
         cases += [(spaced(text, b"2", b"255"), 16), (spaced(b"2", text, b"255"), 16), (spaced(b"2", b"2", text), 16)]
     return cases
 
 
 def magics() -> list[Case]:
     """The first two bytes: the other kinds of Netpbm, and near misses."""
-    others = (b"P1", b"P2", b"P3", b"P4", b"P6", b"P7", b"p5", b"5P", b"P", b"5", b"", b" P5", b"\nP5", b"\xEF\xBB\xBFP5",
-              b"PP5", b"P55", b"P05", b"P5a", b"P 5")
+    others = (b"P1", b"P2", b"P3", b"P4", b"P6", b"P7", b"p5", b"5P", b"P", b"5", b"", b" P5", b"\nP5",
+              b"\xEF\xBB\xBFP5", b"PP5", b"P55", b"P05", b"P5a", b"P 5")
     return [(other + b" 2 2 255 abcd", 16) for other in others] + [(b"P52 2 255 abcd", 16)]
 
 
@@ -159,7 +161,8 @@ def greatest_greys() -> list[Case]:
     """Only 255 is accepted, whether pixels are one byte or two; 65791 is 255 if only its low 16 bits are looked at."""
     lawful = [(spaced(b"2", b"2", text), 0) for text in (b"255", b"0255", b"00255")]
     others = (0, 1, 15, 25, 127, 254, 256, 511, 2550, 25500, 65535, 65791, 99999)
-    return lawful + [(spaced(b"2", b"2", b"%d" % grey, pixels), 17) for grey in others for pixels in (PIXELS, PIXELS * 2)]
+    return lawful + [(spaced(b"2", b"2", b"%d" % grey, pixels), 17)
+                     for grey in others for pixels in (PIXELS, PIXELS * 2)]
 
 
 def pixel_counts() -> list[Case]:
@@ -167,7 +170,8 @@ def pixel_counts() -> list[Case]:
     cases = [(PLAIN_HEADER + b"\x80" * count, 0 if count == 4 else 18) for count in (0, 1, 3, 4, 5, 8, 260, 65540)]
     cases += [(spaced(b"3", b"2", b"255", b"\n" * count), 0 if count == 6 else 18) for count in range(9)]
     # Two pictures, one after the other; and a carriage return and a newline before the pixels.
-    return cases + [((PLAIN_HEADER + PIXELS) * 2, 18), (b"P5\r\n2 2\r\n255\r\nabcd", 18), (b"P5\r\n2 2\r\n255\r\nabc", 0)]
+    return cases + [((PLAIN_HEADER + PIXELS) * 2, 18), (b"P5\r\n2 2\r\n255\r\nabcd", 18),
+                    (b"P5\r\n2 2\r\n255\r\nabc", 0)]
 
 
 def first_of(faults: tuple[int, ...], order: tuple[int, ...]) -> int:
