@@ -15,6 +15,7 @@ static void compare_calls(struct run *run, const struct settings *s)
     compare_coding(run, s);
     compare_rebuilding(run, s);
     compare_writing(run, s);
+    compare_writing_pgm(run, s);
 }
 
 static void one_case(struct run *run)
@@ -22,6 +23,7 @@ static void one_case(struct run *run)
     struct settings s = draw_settings(&run->draw, run->most_side);
     compare_calls(run, &s);
     compare_reading(run);
+    compare_reading_pgm(run);
 }
 
 static void many_cases(struct run *run, uint64_t cases, uint32_t most_side)
@@ -31,12 +33,14 @@ static void many_cases(struct run *run, uint64_t cases, uint32_t most_side)
         one_case(run);
 }
 
-/* The deepest depth of every size around the lawful ones. */
+/* The deepest depth, and the bytes of a PGM file, of every size around the lawful ones. */
 static void all_sizes(struct run *run)
 {
     for (uint16_t columns = 0; columns < ALL_SIDES; columns++)
-        for (uint16_t rows = 0; rows < ALL_SIDES; rows++)
+        for (uint16_t rows = 0; rows < ALL_SIDES; rows++) {
             compare_deepest(run, columns, rows);
+            compare_pgm_size(run, columns, rows);
+        }
 }
 
 /* A shape with lawful bins, so that only the shape may be refused. */
@@ -72,6 +76,8 @@ int main(int words, char **word)
     run.draw.state = seed;
     all_sizes(&run);
     all_shapes(&run);
+    every_pgm(&run);
+    every_set_pgm(&run);
     many_cases(&run, small, SMALL_SIDE);
     many_cases(&run, large, LARGE_SIDE);
     print_answers(&run.tally);

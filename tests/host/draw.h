@@ -1,4 +1,4 @@
-/* Cases drawn from a seed: settings, lengths, pictures, level buffers, readings and files, lawful and not. */
+/* Cases drawn from a seed: settings, lengths, pictures, level buffers, readings, bale and PGM files, lawful and not. */
 #ifndef HOST_DRAW_H
 #define HOST_DRAW_H
 
@@ -14,7 +14,8 @@ struct reading {
     uint32_t number;
 };
 
-enum { MOST_DRAWN_FILE = LEPSARVU_MOST_FILE_BYTES + 16 };
+/* The most bytes of a file that is drawn; a PGM file may be of some pixels too many, and has comments. */
+enum { MOST_DRAWN_FILE = LEPSARVU_MOST_FILE_BYTES + 16, MOST_DRAWN_PIXELS = 131 * 131, MOST_DRAWN_PGM = 18000 };
 
 /* A call's first five arguments; `bins` is what was lent for them. */
 #define SETTINGS(s, bins) (s).columns, (s).rows, (s).depth, (s).kernel, (bins)
@@ -48,5 +49,13 @@ size_t draw_file_of_shape(struct seeded *draw, uint32_t most_side, const struct 
 
 /* The nodes of the shape that the file's first bytes hold, if it is lawful. */
 size_t shape_nodes(const uint8_t *file, size_t length);
+
+/* Cuts a file of some bytes, changes bytes, takes one out, puts one in or appends up to four, or does nothing of this;
+ * answers its length. */
+size_t draw_damage(struct seeded *draw, uint8_t *file, size_t length);
+
+/* A PGM file with all kinds of gaps and numbers, lawful, broken or damaged; answers its length, and in `pixels` the
+ * columns times rows that were meant. */
+size_t draw_pgm(struct seeded *draw, uint32_t most_side, uint8_t file[MOST_DRAWN_PGM], size_t *pixels);
 
 #endif

@@ -77,9 +77,8 @@ static size_t append_bytes(struct seeded *draw, uint8_t *file, size_t length)
     return length;
 }
 
-size_t draw_file(struct seeded *draw, uint32_t most_side, uint8_t file[MOST_DRAWN_FILE])
+size_t draw_damage(struct seeded *draw, uint8_t *file, size_t length)
 {
-    size_t length = draw_whole(draw, most_side, file);
     switch (below(draw, 8)) {
     case 0: /* cut */
         return once_in(draw, 4) ? length - 1 - below(draw, 3) : draw_place(draw, length);
@@ -98,6 +97,11 @@ size_t draw_file(struct seeded *draw, uint32_t most_side, uint8_t file[MOST_DRAW
     default:
         return length;
     }
+}
+
+size_t draw_file(struct seeded *draw, uint32_t most_side, uint8_t file[MOST_DRAWN_FILE])
+{
+    return draw_damage(draw, file, draw_whole(draw, most_side, file));
 }
 
 size_t draw_file_of_shape(struct seeded *draw, uint32_t most_side, const struct settings *s,

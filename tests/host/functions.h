@@ -31,8 +31,18 @@ struct file_calls {
                            uint8_t kinds[2], uint32_t numbers[2]);
 };
 
+struct pgm_calls {
+    uint16_t (*pgm_size)(uint16_t columns, uint16_t rows, size_t *size);
+    uint16_t (*write_pgm)(uint16_t columns, uint16_t rows, const uint8_t *picture, size_t picture_length,
+                          uint8_t *file, size_t file_length, size_t *size);
+    uint16_t (*read_pgm)(const uint8_t *file, size_t file_length, uint8_t *picture, size_t picture_length,
+                         uint16_t *columns, uint16_t *rows);
+    uint16_t (*check_pgm)(const uint8_t *file, size_t file_length, uint16_t *columns, uint16_t *rows);
+};
+
 /* The archive's functions; only functions.c names them. */
 extern const struct pyramid_calls library_pyramid;
 extern const struct file_calls library_file;
+extern const struct pgm_calls library_pgm;
 
 #endif

@@ -1,5 +1,5 @@
-/* The calls of include/lepsarvu.h in plain C, written from document 01, P1 of document 02 and Burt and Adelson (1983):
- * slow, 64-bit, the 25 products of each node added up one by one. */
+/* The calls of include/lepsarvu.h in plain C, written from document 01, P1 and P2 of document 02 and Burt and Adelson
+ * (1983): slow, 64-bit, the 25 products of each node added up one by one, a PGM file's header taken byte by byte. */
 #ifndef HOST_PLAIN_H
 #define HOST_PLAIN_H
 
@@ -7,6 +7,7 @@
 
 extern const struct pyramid_calls plain_pyramid;
 extern const struct file_calls plain_file;
+extern const struct pgm_calls plain_pgm;
 
 enum { MOST_VALUE = 4096 };
 

@@ -15,10 +15,14 @@ enum function {
     WRITE_FILE,
     READ_FILE,
     CHECK_FILE,
+    PGM_SIZE,
+    WRITE_PGM,
+    READ_PGM,
+    CHECK_PGM,
     FUNCTIONS
 };
 
-enum { ANSWERS = 16, SHOWN_FAILURES = 20 };
+enum { ANSWERS = 19, SHOWN_FAILURES = 20 };
 
 struct tally {
     uint64_t number; /* of the case at hand */
@@ -28,7 +32,9 @@ struct tally {
 
 static const char *const FUNCTION_NAMES[FUNCTIONS] = {"coding",      "rebuilding", "level_bounds",
                                                       "deepest_depth", "total_nodes", "file_size",
-                                                      "write_file",  "read_file",  "check_file"};
+                                                      "write_file",  "read_file",  "check_file",
+                                                      "pgm_size",    "write_pgm",  "read_pgm",
+                                                      "check_pgm"};
 
 static inline void count(struct tally *it, enum function function, uint16_t answer, int passed)
 {
@@ -59,10 +65,12 @@ static inline void print_answers(const struct tally *it)
     }
 }
 
-/* Sets of answers, a bit for each: acceptance and the settings' refusals, and with them what both readers give. */
+/* Sets of answers, a bit for each: acceptance and the settings' refusals; with them what both readers of a bale file
+ * give; and what both readers of a PGM file give. */
 #define BIT(answer) (1u << (answer))
 #define OF_SETTINGS (BIT(0) | BIT(1) | BIT(13) | BIT(14) | BIT(15) | BIT(2) | BIT(3))
 #define OF_FILE (OF_SETTINGS | BIT(4) | BIT(9) | BIT(10) | BIT(11) | BIT(12))
+#define OF_PGM (BIT(0) | BIT(16) | BIT(1) | BIT(17) | BIT(18))
 
 /* Every answer that the header lists for a function must have been given, and no other. */
 static inline void demand_answers(struct tally *it)
@@ -77,6 +85,10 @@ static inline void demand_answers(struct tally *it)
         [WRITE_FILE] = OF_SETTINGS | BIT(4) | BIT(6) | BIT(8) | BIT(11),
         [READ_FILE] = OF_FILE | BIT(6),
         [CHECK_FILE] = OF_FILE,
+        [PGM_SIZE] = BIT(0) | BIT(1),
+        [WRITE_PGM] = BIT(0) | BIT(1) | BIT(5) | BIT(8),
+        [READ_PGM] = OF_PGM | BIT(5),
+        [CHECK_PGM] = OF_PGM,
     };
     for (int function = 0; function < FUNCTIONS; function++)
         for (int answer = 0; answer < ANSWERS; answer++)
