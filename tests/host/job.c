@@ -3,19 +3,20 @@
 
 #include <string.h>
 
-struct job job = {.pyramid = &library_pyramid, .file = &library_file};
+struct job job = {.pyramid = &library_pyramid, .file = &library_file, .pgm = &library_pgm};
 
 /* Bytes of one element. */
 static const size_t ELEMENT[THINGS] = {
     [BINS] = sizeof(uint16_t),   [PICTURE] = 1,           [LEVELS] = sizeof(int16_t),    [WORK] = sizeof(int32_t),
     [FILE_PART] = 1,             [NUMBER] = sizeof(uint16_t), [SIZE] = sizeof(size_t),   [BOUNDS] = sizeof(uint16_t),
     [SHAPE] = sizeof(uint16_t),  [READ_BINS] = sizeof(uint16_t), [KINDS] = 1,            [NUMBERS] = sizeof(uint32_t),
+    [COLUMNS] = sizeof(uint16_t), [ROWS] = sizeof(uint16_t),
 };
 
 /* Elements of what always has the same length. */
 static const size_t ALWAYS[THINGS] = {
     [BINS] = LEPSARVU_SLOTS, [NUMBER] = 1,  [SIZE] = 1,    [BOUNDS] = LEPSARVU_SLOTS, [SHAPE] = 4,
-    [READ_BINS] = LEPSARVU_SLOTS, [KINDS] = 2, [NUMBERS] = 2,
+    [READ_BINS] = LEPSARVU_SLOTS, [KINDS] = 2, [NUMBERS] = 2, [COLUMNS] = 1, [ROWS] = 1,
 };
 
 static size_t elements(enum thing thing)
@@ -100,8 +101,31 @@ static void check_file(void)
                                       job.at[KINDS], job.at[NUMBERS]);
 }
 
+static void pgm_size(void)
+{
+    job.answer = job.pgm->pgm_size(job.s.columns, job.s.rows, job.at[SIZE]);
+}
+
+static void write_pgm(void)
+{
+    job.answer = job.pgm->write_pgm(job.s.columns, job.s.rows, job.at[PICTURE], elements(PICTURE), job.at[FILE_PART],
+                                    elements(FILE_PART), job.at[SIZE]);
+}
+
+static void read_pgm(void)
+{
+    job.answer = job.pgm->read_pgm(job.at[FILE_PART], elements(FILE_PART), job.at[PICTURE], elements(PICTURE),
+                                   job.at[COLUMNS], job.at[ROWS]);
+}
+
+static void check_pgm(void)
+{
+    job.answer = job.pgm->check_pgm(job.at[FILE_PART], elements(FILE_PART), job.at[COLUMNS], job.at[ROWS]);
+}
+
 void (*const JOB_CALLS[FUNCTIONS])(void) = {coding,    rebuilding, level_bounds, deepest_depth, total_nodes,
-                                            file_size, write_file, read_file,    check_file};
+                                            file_size, write_file, read_file,    check_file,    pgm_size,
+                                            write_pgm, read_pgm,   check_pgm};
 
 #define NOTE (1 << SHAPE | 1 << READ_BINS | 1 << KINDS | 1 << NUMBERS)
 
@@ -117,6 +141,10 @@ static const struct {
     [WRITE_FILE] = {1 << BINS | 1 << LEVELS, 1 << FILE_PART | 1 << SIZE},
     [READ_FILE] = {1 << FILE_PART, 1 << LEVELS | NOTE},
     [CHECK_FILE] = {1 << FILE_PART, NOTE},
+    [PGM_SIZE] = {0, 1 << SIZE},
+    [WRITE_PGM] = {1 << PICTURE, 1 << FILE_PART | 1 << SIZE},
+    [READ_PGM] = {1 << FILE_PART, 1 << PICTURE | 1 << COLUMNS | 1 << ROWS},
+    [CHECK_PGM] = {1 << FILE_PART, 1 << COLUMNS | 1 << ROWS},
 };
 
 int is_lent(enum function function, enum thing thing)
@@ -157,11 +185,19 @@ static void settings_case(struct seeded *draw, struct settings s, each_job *each
     each(LEVEL_BOUNDS);
     each(TOTAL_NODES);
     each(FILE_SIZE);
+    each(PGM_SIZE);
+}
+
+/* The file that was written becomes the one to read. */
+static void shorten_file(void)
+{
+    size_t size;
+    memcpy(&size, job.held[SIZE], sizeof size);
+    lengthen(FILE_PART, size);
 }
 
 void lawful_case(struct seeded *draw, struct settings s, each_job *each)
 {
-    size_t size;
     settings_case(draw, s, each);
     provide(draw, PICTURE, pixels_of(&s));
     provide(draw, LEVELS, nodes_of(&s));
@@ -173,10 +209,14 @@ void lawful_case(struct seeded *draw, struct settings s, each_job *each)
     each(CODING);
     each(REBUILDING);
     each(WRITE_FILE);
-    memcpy(&size, job.held[SIZE], sizeof size);
-    lengthen(FILE_PART, size);
+    shorten_file();
     each(CHECK_FILE);
     each(READ_FILE);
+    provide(draw, FILE_PART, LEPSARVU_MOST_PGM_BYTES);
+    each(WRITE_PGM);
+    shorten_file();
+    each(CHECK_PGM);
+    each(READ_PGM);
 }
 
 /* A file buffer's length: the file's, one that may be wrong, a small one or the largest. */
@@ -188,6 +228,20 @@ static size_t draw_file_length(struct seeded *draw, const struct settings *s)
     if (plain_file.file_size(SETTINGS(*s, s->bins), &whole) != 0 || once_in(draw, 3))
         return LEPSARVU_MOST_FILE_BYTES;
     return draw_length(draw, whole);
+}
+
+/* Writing the picture that is held, and reading a file that is drawn. */
+static void drawn_pgm(struct seeded *draw, uint32_t most_side, each_job *each)
+{
+    size_t whole, pixels;
+    if (plain_pgm.pgm_size(job.s.columns, job.s.rows, &whole) != 0 || once_in(draw, 3))
+        whole = LEPSARVU_MOST_PGM_BYTES;
+    provide(draw, FILE_PART, draw_length(draw, whole));
+    each(WRITE_PGM);
+    lengthen(FILE_PART, draw_pgm(draw, most_side, job.held[FILE_PART], &pixels));
+    provide(draw, PICTURE, draw_length(draw, pixels));
+    each(CHECK_PGM);
+    each(READ_PGM);
 }
 
 void drawn_case(struct seeded *draw, uint32_t most_side, each_job *each)
@@ -211,4 +265,5 @@ void drawn_case(struct seeded *draw, uint32_t most_side, each_job *each)
     provide(draw, LEVELS, draw_length(draw, shape_nodes(job.held[FILE_PART], elements(FILE_PART))));
     each(CHECK_FILE);
     each(READ_FILE);
+    drawn_pgm(draw, most_side, each);
 }

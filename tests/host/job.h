@@ -6,8 +6,25 @@
 #include "draw.h"
 #include "tally.h"
 
-/* What the functions are lent: a buffer, a small array or a number each. NUMBER is a depth or a number of nodes. */
-enum thing { BINS, PICTURE, LEVELS, WORK, FILE_PART, NUMBER, SIZE, BOUNDS, SHAPE, READ_BINS, KINDS, NUMBERS, THINGS };
+/* What the functions are lent: a buffer, a small array or a number each. NUMBER is a depth or a number of nodes,
+ * FILE_PART a bale file or a PGM file, COLUMNS and ROWS are those that were read of the latter. */
+enum thing {
+    BINS,
+    PICTURE,
+    LEVELS,
+    WORK,
+    FILE_PART,
+    NUMBER,
+    SIZE,
+    BOUNDS,
+    SHAPE,
+    READ_BINS,
+    KINDS,
+    NUMBERS,
+    COLUMNS,
+    ROWS,
+    THINGS
+};
 
 enum { MORE = 9, MOST_LENT = (LEPSARVU_MOST_NODES + MORE) * (int)sizeof(int32_t) };
 _Static_assert(MOST_LENT % 16 == 0, "what is held is aligned");
@@ -15,6 +32,7 @@ _Static_assert(MOST_LENT % 16 == 0, "what is held is aligned");
 struct job {
     const struct pyramid_calls *pyramid; /* whose functions are called */
     const struct file_calls *file;
+    const struct pgm_calls *pgm;
     struct settings s;
     struct reading drier, press;
     uint16_t answer;
@@ -48,7 +66,8 @@ void hold_again(enum function function);
 /* What a test does with a function's job: it lays out what the function is lent, makes the call and looks. */
 typedef void each_job(enum function function);
 
-/* Right lengths: the levels that coding leaves are rebuilt and written, and the file that was written is read. */
+/* Right lengths: the levels that coding leaves are rebuilt and written, and the file that was written is read; so is
+ * a PGM file of the rebuilt picture. */
 void lawful_case(struct seeded *draw, struct settings s, each_job *each);
 
 /* Any settings, lengths, level buffers, readings and files. */

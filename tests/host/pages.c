@@ -13,6 +13,7 @@ static struct tally tally;
 /* The implementation that is tried. */
 static const struct pyramid_calls *tried_pyramid = &library_pyramid;
 static const struct file_calls *tried_file = &library_file;
+static const struct pgm_calls *tried_pgm = &library_pgm;
 
 /* What plain C answers and leaves. */
 static _Alignas(16) unsigned char expected[THINGS][MOST_LENT];
@@ -22,12 +23,14 @@ static void expect(enum function function)
 {
     job.pyramid = &plain_pyramid;
     job.file = &plain_file;
+    job.pgm = &plain_pgm;
     for (enum thing thing = 0; thing < THINGS; thing++)
         job.at[thing] = memcpy(expected[thing], job.held[thing], job.bytes[thing]);
     JOB_CALLS[function]();
     expected_answer = job.answer;
     job.pyramid = tried_pyramid;
     job.file = tried_file;
+    job.pgm = tried_pgm;
 }
 
 static int as_expected(enum function function, enum place place)
@@ -132,20 +135,40 @@ static uint16_t over_reading(uint16_t columns, uint16_t rows, uint16_t depth, ui
     return plain_pyramid.level_bounds(columns, rows, depth, kernel, bins, bounds);
 }
 
-/* A function that reads past the end fails where memory ends, and does not where more follows. */
+/* The same: it looks for a digit after a file that ends in one. */
+static uint16_t over_checking(const uint8_t *file, size_t file_length, uint16_t *columns, uint16_t *rows)
+{
+    volatile uint8_t read = file[file_length];
+    (void)read;
+    return plain_pgm.check_pgm(file, file_length, columns, rows);
+}
+
+/* A function that reads past the end of a thing fails where memory ends, and does not where more follows. */
+static int is_seen(enum function function, enum thing thing)
+{
+    struct tally before = tally;
+    tally.failed = SHOWN_FAILURES; /* so that it is not shown */
+    try_both(function);
+    int seen = tally.failed == SHOWN_FAILURES + 1 && tally.passed == before.passed + 1 &&
+               strcmp(fault_name(), THING_NAMES[thing]) == 0;
+    tally = before;
+    return seen;
+}
+
 static void check_faulty(void)
 {
+    static const char CUT[] = "P5 13 1";
     struct pyramid_calls faulty = plain_pyramid;
-    struct tally before = tally;
+    struct pgm_calls faulty_pgm = plain_pgm;
     faulty.level_bounds = over_reading;
+    faulty_pgm.check_pgm = over_checking;
     tried_pyramid = &faulty;
-    tally.failed = SHOWN_FAILURES; /* so that it is not shown */
-    try_both(LEVEL_BOUNDS);
-    int seen = tally.failed == SHOWN_FAILURES + 1 && tally.passed == before.passed + 1 &&
-               strcmp(fault_name(), THING_NAMES[BINS]) == 0;
+    tried_pgm = &faulty_pgm;
+    demand("a read past the bins was not seen", is_seen(LEVEL_BOUNDS, BINS));
+    provide_copy(FILE_PART, CUT, sizeof CUT - 1);
+    demand("a read past a PGM file was not seen", is_seen(CHECK_PGM, FILE_PART));
     tried_pyramid = &library_pyramid;
-    tally = before;
-    demand("a read past the bins was not seen", seen);
+    tried_pgm = &library_pgm;
 }
 
 static void check_oneself(void)

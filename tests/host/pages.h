@@ -18,7 +18,8 @@ enum place { AT_END, AT_START, PLACES };
 
 static const char *const PLACE_NAMES[PLACES] = {"memory ends", "memory starts"};
 static const char *const THING_NAMES[THINGS] = {"bins", "picture", "levels", "work",      "file",  "number",
-                                                "size", "bounds",  "shape",  "read bins", "kinds", "numbers"};
+                                                "size", "bounds",  "shape",  "read bins", "kinds", "numbers",
+                                                "columns", "rows"};
 
 static unsigned char *room[THINGS];
 static sigjmp_buf before_fault;

@@ -1,11 +1,14 @@
 /* The stack that a call takes: stack [SEED [SMALL [LARGE]]]
  * Every function is called on a painted stack, with the largest and the smallest settings and in cases from a seed,
  * accepted and refused. Counted are the frame of a small C function that makes the call, the arguments that it passes
- * on the stack, the return address, and all that the function and memset use below. */
+ * on the stack, the return address, and all that the function, and memset or memcpy, use below. */
 #include "guarded.h"
 #include "painted.h"
 
 enum { SMALL_CASES = 5000, LARGE_CASES = 300, SMALL_SIDE = 9, LARGE_SIDE = 129, KNOWN = 3000, SLACK = 64 };
+
+/* The most that a call of a function of PGM files may take. */
+enum { MOST_PGM_SIZE = 128, MOST_WRITE_PGM = 256, MOST_READ_PGM = 512, MOST_CHECK_PGM = 512 };
 
 /* The most that a call may take, and the least that the deepest one must have been seen to take: its arguments on the
  * stack, its return address, the rows of 129 32-bit numbers that stand below each other, or 40 bytes for each of seven
@@ -16,6 +19,8 @@ static const struct {
     [CODING] = {40 + 8 + 2 * 516, 2304}, [REBUILDING] = {40 + 8 + 516, 1536}, [LEVEL_BOUNDS] = {8, 128},
     [DEEPEST_DEPTH] = {8, 128},          [TOTAL_NODES] = {8, 128},            [FILE_SIZE] = {8, 128},
     [WRITE_FILE] = {64 + 8 + 280, 1280}, [READ_FILE] = {16 + 8 + 280, 1280},  [CHECK_FILE] = {8 + 280, 1280},
+    [PGM_SIZE] = {8, MOST_PGM_SIZE},     [WRITE_PGM] = {8 + 8, MOST_WRITE_PGM}, [READ_PGM] = {8, MOST_READ_PGM},
+    [CHECK_PGM] = {8, MOST_CHECK_PGM},
 };
 
 static struct seeded draw;

@@ -1,4 +1,4 @@
-/* Holds the library to the answers of the Python reference, on standard input: vectors pyramid|levels|files|calls
+/* Holds the library to the answers of the Python reference, on standard input: vectors pyramid|levels|files|calls|pgm
  * tests/reference/README.md gives the formats. */
 #include "guarded.h"
 #include "vectors.h"
@@ -161,7 +161,8 @@ int main(int words, char **word)
     static const struct {
         const char *kind;
         void (*check)(void);
-    } KINDS[] = {{"pyramid", pyramid_case}, {"levels", levels_case}, {"files", files_case}, {"calls", calls_case}};
+    } KINDS[] = {{"pyramid", pyramid_case}, {"levels", levels_case}, {"files", files_case}, {"calls", calls_case},
+                 {"pgm", pgm_case}};
     for (size_t at = 0; words == 2 && at < sizeof KINDS / sizeof *KINDS; at++)
         if (strcmp(word[1], KINDS[at].kind) == 0) {
             while (next_case()) {
@@ -172,6 +173,6 @@ int main(int words, char **word)
             print_answers(&tally);
             return finish(&tally);
         }
-    fprintf(stderr, "usage: vectors pyramid|levels|files|calls\n");
+    fprintf(stderr, "usage: vectors pyramid|levels|files|calls|pgm\n");
     return 2;
 }

@@ -35,4 +35,7 @@ void take_note(struct note *it);
 /* Settings and lengths that may be unlawful: the answer of every call. */
 void calls_case(void);
 
+/* A PGM file: what its readers answer, and the single form of its picture. */
+void pgm_case(void);
+
 #endif
