@@ -1,29 +1,40 @@
-/* A program with no C library and no start-up but its own: the archive needs memset and nothing else. It codes piece A
- * of document 01, writes its file, reads it back and rebuilds the picture, with guard bytes around all that it lends;
- * the exit status is the step that failed, or 64 more where that step changed a guard or what it only reads. */
+/* A program with no C library and no start-up but its own: the archive needs memset and memcpy at most. It codes piece A
+ * of document 01, writes its file, reads it back and rebuilds the picture, and writes piece A as a PGM file and reads
+ * that back, with guard bytes around all that it lends; the exit status is the step that failed, or 64 more where that
+ * step changed a guard or what it only reads. */
 #include "../../include/lepsarvu.h"
 
-enum { NODES = 13, PIXELS = 9, FILE_BYTES = 58, GUARD = 32, ROOM = 64, GUARD_BYTE = 0xA5, CHANGED = 64 };
+enum { NODES = 13, PIXELS = 9, FILE_BYTES = 58, PGM_BYTES = 20, GUARD = 32, ROOM = 64, GUARD_BYTE = 0xA5, STEPS = 14,
+       CHANGED = 64 };
 enum thing { BINS, PICTURE, SHOWN, LEVELS, READ, WORK, FILE_PART, NUMBER, SIZE, BOUNDS, SHAPE, READ_BINS, KINDS,
-             NUMBERS, THINGS };
+             NUMBERS, PGM, COLUMNS, ROWS, THINGS };
 
 static const uint16_t PIECE_BINS[7] = {10, 4, 0, 0, 0, 0, 0};
 static const uint8_t PIECE[PIXELS] = {0, 0, 0, 0, 100, 0, 0, 0, 0};
 
 static const size_t BYTES[THINGS] = {14, PIXELS, PIXELS, 2 * NODES, 2 * NODES, 4 * NODES, FILE_BYTES, 2, sizeof(size_t),
-                                     14, 8,      14,     2,         8};
+                                     14, 8,      14,     2,         8,         PGM_BYTES, 2,          2};
 
 static struct {
     _Alignas(16) uint8_t bytes[GUARD + ROOM + GUARD];
 } lent[THINGS];
 
 void *memset(void *to, int byte, size_t bytes);
+void *memcpy(void *restrict to, const void *restrict from, size_t bytes);
 _Noreturn void _start(void);
 
 void *memset(void *to, int byte, size_t bytes)
 {
     for (volatile unsigned char *at = to; bytes > 0; bytes--)
         *at++ = (unsigned char)byte;
+    return to;
+}
+
+void *memcpy(void *restrict to, const void *restrict from, size_t bytes)
+{
+    const volatile unsigned char *of = from;
+    for (volatile unsigned char *at = to; bytes > 0; bytes--)
+        *at++ = *of++;
     return to;
 }
 
@@ -108,11 +119,39 @@ static int late_step(int which)
     }
 }
 
+/* Whether the PGM file of piece A is "P5\n3 3\n255\n" and its pixels. */
+static int is_piece(const uint8_t *file)
+{
+    static const char HEADER[] = "P5\n3 3\n255\n";
+    int same = 1;
+    for (size_t byte = 0; byte < PGM_BYTES; byte++)
+        same &= file[byte] == (byte < sizeof HEADER - 1 ? (uint8_t)HEADER[byte] : PIECE[byte - (sizeof HEADER - 1)]);
+    return same;
+}
+
+/* The same of the steps with a PGM file, which show piece A itself. */
+static int pgm_step(int which)
+{
+    const uint8_t *shown = at(SHOWN);
+    switch (which) {
+    case 11:
+        return lepsarvu_pgm_size(3, 3, at(SIZE)) == 0 && number_at(SIZE) == PGM_BYTES;
+    case 12:
+        return lepsarvu_write_pgm(3, 3, at(PICTURE), PIXELS, at(PGM), PGM_BYTES, at(SIZE)) == 0 &&
+               number_at(SIZE) == PGM_BYTES && is_piece(at(PGM));
+    case 13:
+        return lepsarvu_check_pgm(at(PGM), PGM_BYTES, at(COLUMNS), at(ROWS)) == 0 && number_at(COLUMNS) == 3;
+    default:
+        return lepsarvu_read_pgm(at(PGM), PGM_BYTES, at(SHOWN), PIXELS, at(COLUMNS), at(ROWS)) == 0 &&
+               number_at(ROWS) == 3 && shown[4] == PIECE[4] && shown[8] == PIECE[8];
+    }
+}
+
 static int steps(void)
 {
     lend();
-    for (int which = 1; which <= 10; which++) {
-        if (!(which <= 5 ? step(which) : late_step(which)))
+    for (int which = 1; which <= STEPS; which++) {
+        if (!(which <= 5 ? step(which) : which <= 10 ? late_step(which) : pgm_step(which)))
             return which;
         if (!kept())
             return CHANGED + which;
