@@ -35,6 +35,16 @@ mod c {
         pub fn lepsarvu_check_file(
             file: *const u8, file_length: usize, shape: *mut u16, bins: *mut u16, kinds: *mut u8, numbers: *mut u32,
         ) -> u16;
+        pub fn lepsarvu_pgm_size(columns: u16, rows: u16, size: *mut usize) -> u16;
+        pub fn lepsarvu_write_pgm(
+            columns: u16, rows: u16, picture: *const u8, picture_length: usize, file: *mut u8, file_length: usize,
+            size: *mut usize,
+        ) -> u16;
+        pub fn lepsarvu_read_pgm(
+            file: *const u8, file_length: usize, picture: *mut u8, picture_length: usize,
+            columns: *mut u16, rows: *mut u16,
+        ) -> u16;
+        pub fn lepsarvu_check_pgm(file: *const u8, file_length: usize, columns: *mut u16, rows: *mut u16) -> u16;
     }
 }
 
@@ -183,4 +193,40 @@ pub fn check_file(file: &[u8]) -> Answer<Note> {
         )
     };
     answer(number, parts.note())
+}
+
+/// The bytes of a PGM file.
+pub fn pgm_size(columns: u16, rows: u16) -> Answer<usize> {
+    let mut size = 0;
+    let number = unsafe { c::lepsarvu_pgm_size(columns, rows, &mut size) };
+    answer(number, size)
+}
+
+/// Writes a PGM file at the start of `file` and answers its bytes.
+pub fn write_pgm(columns: u16, rows: u16, picture: &[u8], file: &mut [u8]) -> Answer<usize> {
+    let mut size = 0;
+    let number = unsafe {
+        c::lepsarvu_write_pgm(
+            columns, rows, picture.as_ptr(), picture.len(), file.as_mut_ptr(), file.len(), &mut size,
+        )
+    };
+    answer(number, size)
+}
+
+/// Reads a PGM file, its pixels into `picture`, and answers its columns and rows.
+pub fn read_pgm(file: &[u8], picture: &mut [u8]) -> Answer<(u16, u16)> {
+    let (mut columns, mut rows) = (0, 0);
+    let number = unsafe {
+        c::lepsarvu_read_pgm(
+            file.as_ptr(), file.len(), picture.as_mut_ptr(), picture.len(), &mut columns, &mut rows,
+        )
+    };
+    answer(number, (columns, rows))
+}
+
+/// Answers the columns and rows of a PGM file whose pixels nobody asks for yet.
+pub fn check_pgm(file: &[u8]) -> Answer<(u16, u16)> {
+    let (mut columns, mut rows) = (0, 0);
+    let number = unsafe { c::lepsarvu_check_pgm(file.as_ptr(), file.len(), &mut columns, &mut rows) };
+    answer(number, (columns, rows))
 }

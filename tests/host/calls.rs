@@ -1,5 +1,6 @@
-//! Document 01's piece A through the library from Rust: coding, rebuilding, the file, and refusals.
+//! Document 01's piece A through the library from Rust: coding, rebuilding, the file, PGM files, and refusals.
 
+mod calls_pgm;
 mod calls_raw;
 mod lent;
 #[path = "../../examples/rust/lepsarvu.rs"]
@@ -232,7 +233,7 @@ fn read(t: &mut Tally) {
 
 fn main() {
     let mut t = Tally::default();
-    for part in [sizes, refuse_shapes, code_and_rebuild, refuse_buffers, write, read, calls_raw::all] {
+    for part in [sizes, refuse_shapes, code_and_rebuild, refuse_buffers, write, read, calls_raw::all, calls_pgm::all] {
         part(&mut t);
     }
     println!("{} passed, {} failed", t.passed, t.failed);

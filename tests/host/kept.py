@@ -1,6 +1,6 @@
 """Holds the vectors that are kept with the test programs to the reference: `python3 tests/host/kept.py [CRATES]`.
 
-Each kind is made anew with tests/reference/vectors.py and compared byte for byte with crates/*/data.
+Each kind is made anew with tests/reference/vectors.py and compared byte for byte with crates/*/data; each has one home.
 """
 
 import subprocess
@@ -15,6 +15,9 @@ sys.path.insert(0, str(REFERENCE))
 
 from tally import Tally  # noqa: E402
 from vectors import KINDS  # noqa: E402
+
+# The crate whose data a kind is.
+HOMES = {"pyramid": "test_vectors", "levels": "test_vectors", "files": "test_files", "pgm": "test_pgm"}
 
 
 def first_difference(first: bytes, second: bytes) -> str:
@@ -35,9 +38,9 @@ def made_anew(kind: str, folder: str) -> tuple[bytes, str]:
 
 
 def check_kind(tally: Tally, kind: str, crates: Path, folder: str) -> None:
-    """A kind is kept once, is what the reference writes, and is as large as the reference's README says."""
+    """A kind is kept once, at home, is what the reference writes, and is as large as the reference's README says."""
     kept = sorted(crates.glob(f"*/data/{kind}.bin"))
-    tally.equal(f"{kind}: how often it is kept", len(kept), 1)
+    tally.equal(f"{kind}: where it is kept", kept, [crates / HOMES.get(kind, "nowhere") / "data" / f"{kind}.bin"])
     data, said = made_anew(kind, folder)
     for path in kept:
         tally.equal(str(path), first_difference(path.read_bytes(), data), "")
@@ -50,6 +53,7 @@ def check_kind(tally: Tally, kind: str, crates: Path, folder: str) -> None:
 def main(crates: Path) -> int:
     """All kinds, and nothing else is kept; the exit status."""
     tally = Tally()
+    tally.equal("kinds that have a home", sorted(HOMES), sorted(KINDS))
     with tempfile.TemporaryDirectory() as folder:
         for kind in KINDS:
             check_kind(tally, kind, crates, folder)
