@@ -1,4 +1,4 @@
-/* What the two benchmarks share: the memory lent to a call, the sizes, and best times of two implementations. */
+/* What the benchmarks share: the memory lent to a call, the sizes, and best times of two implementations. */
 #ifndef BENCH_H
 #define BENCH_H
 
@@ -17,11 +17,12 @@ static const double ROUND_SECONDS = 0.004;
 /* The library is the first implementation, plain C the second. */
 static const struct pyramid_calls *const PYRAMIDS[2] = {&library_pyramid, &fast_pyramid};
 static const struct file_calls *const FILES[2] = {&library_file, &fast_file};
+static const struct pgm_calls *const PGMS[2] = {&library_pgm, &fast_pgm};
 
 struct job {
     int which;
     uint16_t side, depth, kernel, answer;
-    uint16_t bins[LEPSARVU_SLOTS], shape[4], read_bins[LEPSARVU_SLOTS];
+    uint16_t bins[LEPSARVU_SLOTS], shape[4], read_bins[LEPSARVU_SLOTS], columns, rows;
     uint8_t kinds[2];
     uint32_t numbers[2];
     unsigned nodes, pixels;
@@ -87,10 +88,11 @@ static long times_in_round(struct job *it, call *work)
     return times;
 }
 
-static void print_heading(void)
+/* What is counted is a node, and of a PGM file a pixel. */
+static void print_heading(const char *counted)
 {
-    printf("| %-10s | %10s | %6s | %10s | %10s | %5s | %15s | %15s |\n", "call", "size", "nodes", "library us",
-           "plain C us", "ratio", "library ns/node", "plain C ns/node");
+    printf("| %-10s | %10s | %5ss | %10s | %10s | %5s | library ns/%s | plain C ns/%s |\n", "call", "size", counted,
+           "library us", "plain C us", "ratio", counted, counted);
     puts("|---|---|---|---|---|---|---|---|");
 }
 
@@ -106,7 +108,7 @@ static void compare_times(const char *name, struct job *it, call *work)
             if (each < best[it->which])
                 best[it->which] = each;
         }
-    printf("| %-10s | %3u by %3u | %6u | %10.2f | %10.2f | %5.2f | %15.2f | %15.2f |\n", name, it->side, it->side,
+    printf("| %-10s | %3u by %3u | %6u | %10.3f | %10.3f | %5.2f | %15.3f | %15.3f |\n", name, it->side, it->side,
            it->nodes, best[0] * 1e6, best[1] * 1e6, best[0] / best[1], best[0] * 1e9 / it->nodes,
            best[1] * 1e9 / it->nodes);
 }

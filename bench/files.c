@@ -16,7 +16,7 @@ static void reading(struct job *it)
 int main(void)
 {
     static struct job it;
-    print_heading();
+    print_heading("node");
     for (int size = 0; size < SIZES; size++) {
         prepare(&it, size, 4);
         it.answer = fast_pyramid.coding(it.side, it.side, it.depth, it.kernel, it.bins, it.picture, it.pixels,

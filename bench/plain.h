@@ -8,6 +8,7 @@ enum { SLOTS = 7, MOST_SIDE = 129, MOST_VALUE = 4096 };
 
 extern const struct pyramid_calls fast_pyramid;
 extern const struct file_calls fast_file;
+extern const struct pgm_calls fast_pgm;
 
 /* Shared by the two parts. */
 uint16_t fast_shape_refusal(uint16_t columns, uint16_t rows, uint16_t depth, uint16_t kernel);

@@ -16,7 +16,7 @@ static void rebuilding(struct job *it)
 int main(void)
 {
     static struct job it;
-    print_heading();
+    print_heading("node");
     for (int size = 0; size < SIZES; size++) {
         for (uint16_t kernel = 3; kernel <= 6; kernel++) {
             prepare(&it, size, kernel);
