@@ -196,6 +196,17 @@ static void shorten_file(void)
     lengthen(FILE_PART, size);
 }
 
+/* Both readers, each lent numbers that hold anything, so that what one leaves doesn't hide what the other does. */
+static void read_pgm_case(struct seeded *draw, each_job *each)
+{
+    static const enum function READERS[] = {CHECK_PGM, READ_PGM};
+    for (int which = 0; which < 2; which++) {
+        provide(draw, COLUMNS, 1);
+        provide(draw, ROWS, 1);
+        each(READERS[which]);
+    }
+}
+
 void lawful_case(struct seeded *draw, struct settings s, each_job *each)
 {
     settings_case(draw, s, each);
@@ -215,8 +226,7 @@ void lawful_case(struct seeded *draw, struct settings s, each_job *each)
     provide(draw, FILE_PART, LEPSARVU_MOST_PGM_BYTES);
     each(WRITE_PGM);
     shorten_file();
-    each(CHECK_PGM);
-    each(READ_PGM);
+    read_pgm_case(draw, each);
 }
 
 /* A file buffer's length: the file's, one that may be wrong, a small one or the largest. */
@@ -240,8 +250,7 @@ static void drawn_pgm(struct seeded *draw, uint32_t most_side, each_job *each)
     each(WRITE_PGM);
     lengthen(FILE_PART, draw_pgm(draw, most_side, job.held[FILE_PART], &pixels));
     provide(draw, PICTURE, draw_length(draw, pixels));
-    each(CHECK_PGM);
-    each(READ_PGM);
+    read_pgm_case(draw, each);
 }
 
 void drawn_case(struct seeded *draw, uint32_t most_side, each_job *each)
