@@ -5,12 +5,13 @@ use borrow.Author.Tests.{le-leb, eq-eqb}
 use Rattle.pyramid.specs.declared.Settings.{Settings}
 use Rattle.pyramid.specs.declared.LevelSize.{LevelSize}
 use Rattle.pyramid.specs.declared.Nodes.{Nodes}
+use Rattle.pyramid.specs.declared.Deepest.{Deepest}
 use Rattle.pyramid.specs.Definitions.Settings.{sideOk, depthOk, divides, kernelOk, sizeOk}
 use Rattle.pyramid.specs.Definitions.Sizes.{columnsAt, rowsAt, nodesAt, total}
 use Rattle.pyramid.specs.Inner.Lawful.{Shaped}
 use Rattle.pyramid.specs.Definitions.Calls.{leaves}
 use Rattle.pyramid.specs.Definitions.Refusals.{unless, first, shapeRefusal, settingsRefusal}
-use Rattle.pyramid.specs.Definitions.Answers.{levelSizeAnswer, nodesAnswer, shapeAnswer}
+use Rattle.pyramid.specs.Definitions.Answers.{levelSizeAnswer, nodesAnswer, shapeAnswer, deepestAnswer}
 use Rattle.pyramid.proofs.Refusals.{leaves-new}
 use Rattle.pyramid.proofs.Sizes.{nodes-most}
 
@@ -53,3 +54,8 @@ nodes-answer s answer e = rw e
 pub nodes-total : (s : Settings) (answer : Nodes) → answer ≡ nodesAnswer s → answer .refusal ≡ 0 → answer .nodes ≡ total s
 unfolding nodesAnswer
 nodes-total s answer e none = rw e (leaves-new _ _ _ (sym (nodes-answer s answer e) ∙ none))
+
+-- the deepest depth is refused on size only
+pub deepest-answer : (columns rows : ℕ) (answer : Deepest) → answer ≡ deepestAnswer columns rows → answer .refusal ≡ unless (sizeOk columns rows) 1
+unfolding deepestAnswer
+deepest-answer columns rows answer e = rw e
