@@ -1,0 +1,14 @@
+pub mod Spaces
+pub mod SpacedNumbers
+pub mod Grammar
+pub mod Acceptance
+pub mod RoundTrips
+pub mod WorkedFiles
+pub mod Passing
+pub mod Headers
+pub mod Answers
+pub mod Writings
+pub mod Copies
+pub mod Conditions
+pub mod Numbers
+pub mod Refused

@@ -1,0 +1,5 @@
+pub mod Grammar
+pub mod WorkedFiles
+pub mod Numbers
+pub mod Conditions
+pub mod Refused

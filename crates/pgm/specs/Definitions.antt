@@ -1,0 +1,3 @@
+pub mod Header
+pub mod Files
+pub mod Calls
