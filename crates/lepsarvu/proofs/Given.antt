@@ -16,6 +16,11 @@ module _ {A B : Type 0} (refusal : A → ℕ) (field : A → B) {answer is : A} 
   pub kept : (refusal answer ≡ 0 → ⊥) → (refusal answer ≡ refusal is) × (old ≡ leaves (refusal answer) (field is) old)
   kept refused = (ap refusal e, sym (leaves-kept (refusal answer) (field is) old refused))
 
+-- what another function gave of an answer, whose refusal it answered
+module _ {A B : Type 0} (refusal : A → ℕ) (field : A → B) {answer is : A} (e : answer ≡ is) (old : B) where
+  pub passed-on : {new : B} {r : ℕ} → r ≡ refusal answer → new ≡ leaves (refusal answer) (field answer) old → new ≡ leaves r (field is) old
+  passed-on p q = q ∙ rw (p, ap field e)
+
 -- the kinds and numbers of two readings
 module _ (note : Note) {drier press : Code} (d : drier ≡ codeOf (note .«before_drier»)) (p : press ≡ codeOf (note .«at_press»)) where
   pub kinds-are : drier .kind ∷ press .kind ∷ [] ≡ kindsOf note

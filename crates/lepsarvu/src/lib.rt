@@ -13,6 +13,8 @@ ghost use Rattle.pyramid.specs.Definitions.Refusals.{first, settingsRefusal};
 ghost use Rattle.bale.specs.Definitions.Calls.{sizeAnswer, checkFile, readFile};
 ghost use Rattle.lepsarvu.specs.Definitions.Exports.{settingsOf, shapeOf, kindsOf, numbersOf, codedRefusal, codedFile, codedSize};
 
+pub mod pictures;
+
 fn settings(columns: u16, rows: u16, depth: u16, kernel: u16, bins: [u16; 7]) -> Settings
     ensures { λ r. ⌜ r ≡ settingsOf columns rows depth kernel bins ⌝ }
 {
