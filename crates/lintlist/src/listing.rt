@@ -12,7 +12,9 @@ fn text(bytes: &[u8]) -> bool {
 
 // Text, and a number in decimal after it.
 fn number(word: &[u8], n: u32) -> bool {
-    text(word) && io::print_decimal(STDOUT_FILENO, n as u64)
+    let mut digits = [0; 10];
+    let count = decimals::put_decimal(n, &mut digits, 0);
+    text(word) && text(&digits[..count])
 }
 
 // The last hexadecimal digit of a number, in upper case.
