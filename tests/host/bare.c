@@ -1,4 +1,4 @@
-/* A program with no C library and no start-up but its own: the archive needs memset and memcpy at most. It codes piece A
+/* A program with no C library and no start-up but its own: the archive needs memset and memmove. It codes piece A
  * of document 01, writes its file, reads it back and rebuilds the picture, and writes piece A as a PGM file and reads
  * that back, with guard bytes around all that it lends; the exit status is the step that failed, or 64 more where that
  * step changed a guard or what it only reads. */
@@ -20,7 +20,7 @@ static struct {
 } lent[THINGS];
 
 void *memset(void *to, int byte, size_t bytes);
-void *memcpy(void *restrict to, const void *restrict from, size_t bytes);
+void *memmove(void *to, const void *from, size_t bytes);
 _Noreturn void _start(void);
 
 void *memset(void *to, int byte, size_t bytes)
@@ -30,7 +30,8 @@ void *memset(void *to, int byte, size_t bytes)
     return to;
 }
 
-void *memcpy(void *restrict to, const void *restrict from, size_t bytes)
+/* What the archive copies does not overlap. */
+void *memmove(void *to, const void *from, size_t bytes)
 {
     const volatile unsigned char *of = from;
     for (volatile unsigned char *at = to; bytes > 0; bytes--)

@@ -1,7 +1,7 @@
 /* The stack that a call takes: stack [SEED [SMALL [LARGE]]]
  * Every function is called on a painted stack, with the largest and the smallest settings and in cases from a seed,
  * accepted and refused. Counted are the frame of a small C function that makes the call, the arguments that it passes
- * on the stack, the return address, and all that the function, and memset or memcpy, use below. */
+ * on the stack, the return address, and all that the function, and memset or memmove, use below. */
 #include "guarded.h"
 #include "painted.h"
 
