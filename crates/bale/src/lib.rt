@@ -1,4 +1,6 @@
 // The bale file of document 01: its writer, its reader, and the reader that is lent no level buffer.
+#![tactic(auto)]
+
 ghost use Rattle.std.specs.Prelude.{◌≡◌};
 ghost use Rattle.bale.specs.Definitions.Readings.{code_of, decode};
 ghost use Rattle.bale.specs.Definitions.Calls.{size_answer, write_file, check_file, read_file};

@@ -1,4 +1,6 @@
 // Numbers in decimal (document 02, P2), for every text that is read or written.
+#![tactic(auto)]
+
 ghost use Rattle.std.specs.Prelude.{◌≡◌, cond, ◌+◌, ◌-◌, ◌≤◌, min, length};
 ghost use Rattle.mathematics.specs.Inner.Splices.{splice};
 ghost use Rattle.decimals.specs.Definitions.Text.{decimal, text_at, has_room, number_at};

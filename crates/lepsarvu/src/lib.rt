@@ -1,4 +1,6 @@
 // The pyramid and the bale file for programs in C or Rust: numbers and slices alone. include/lepsarvu.h declares each function.
+#![tactic(auto)]
+
 ghost use Rattle.std.specs.Prelude.{◌≡◌, [], ◌∷◌, length};
 ghost use Rattle.pyramid.specs.Definitions.Calls.{leaves, coding, rebuilding};
 ghost use Rattle.pyramid.specs.Definitions.Answers.{nodes_answer, bounds_answer, deepest_answer};

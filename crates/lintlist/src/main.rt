@@ -1,4 +1,6 @@
 // Lists the bale file on standard input (document 01, "Small pieces, worked").
+#![tactic(auto)]
+
 mod input;
 mod listing;
 

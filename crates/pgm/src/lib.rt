@@ -1,4 +1,6 @@
 // Pictures as PGM files (document 02, P2): two readers and a writer.
+#![tactic(auto)]
+
 ghost use Rattle.std.specs.Prelude.{◌≡◌};
 ghost use Rattle.pgm.specs.Definitions.Calls.{check_pgm, read_pgm, size_answer, write_pgm};
 

@@ -1,4 +1,6 @@
 // The picture pyramid of document 01: settings, coding, rebuilding, the bound and the deepest depth.
+#![tactic(auto)]
+
 ghost use Rattle.std.specs.Prelude.{◌≡◌, [], ◌∷◌, T};
 ghost use Rattle.pyramid.specs.Definitions.Answers.{nodes_answer, shape_answer, level_size_answer, bounds_answer, deepest_answer};
 ghost use Rattle.pyramid.specs.Definitions.Pyramid.{average, index};

@@ -1,4 +1,6 @@
 // Rounding and the bin rule (document 01, "Pyramid steps"), for 32-bit sums and values and 16-bit divisors and bins.
+#![tactic(auto)]
+
 ghost use Rattle.std.specs.Prelude.{◌≡◌, true, false, ◌≤◌, ◌<◌, pos, nat_abs, ◌+ℤ◌};
 ghost use Rattle.quantizer.specs.Definitions.Rounding.{round_div};
 ghost use Rattle.quantizer.specs.Definitions.Bins.{bin_index};

@@ -1,4 +1,6 @@
 // Checks rounding, the bin rule and worked pieces of document 01 by calls, and every refusal of coding and rebuilding in its order, with what it leaves in the lent buffers.
+#![tactic(auto)]
+
 mod base;
 mod buffers;
 mod calling;

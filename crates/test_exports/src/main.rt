@@ -1,4 +1,6 @@
 // Calls every exported function with numbers that all differ, and compares each number that is handed out with document 01.
+#![tactic(auto)]
+
 mod files;
 mod handed;
 mod lent;

@@ -1,4 +1,6 @@
 // Holds the bale file's readers and writer to files that another implementation answered (tests/reference), the writer to every set of faults, and readings to their codes.
+#![tactic(auto)]
+
 mod answers;
 mod cases;
 mod codes;

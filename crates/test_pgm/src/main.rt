@@ -1,4 +1,6 @@
 // Holds PGM pictures to files that another implementation answered (tests/reference), both readers and the writer to sets of faults, and numbers in decimal to digits written out by hand.
+#![tactic(auto)]
+
 mod answers;
 mod cases;
 mod faults;

@@ -1,4 +1,6 @@
 // Holds coding, rebuilding, T and the bounds to vectors that another implementation made (tests/reference).
+#![tactic(auto)]
+
 mod cases;
 mod coding;
 mod comparing;

@@ -1,5 +1,5 @@
 -- `reciprocal` is the smallest whole number above 2^31/d, and the only one that is. Assumes nothing.
-use Rattle.std.specs.Prelude.{◌≡◌, refl, ℕ, suc, ◌+◌, ◌*◌, ◌/◌, ◌%◌, ◌<◌}
+use Rattle.std.specs.Prelude.{◌≡◌, refl, ℕ, zero, suc, ◌+◌, ◌*◌, ◌/◌, ◌%◌, ◌<◌}
 use Rattle.std.proofs.Common.{div-add-mod', mod-lt, lt_of_mul-lt-mul_right, arith}
 use Rattle.quantizer.specs.Definitions.Reciprocals.{reciprocal, LeastAbove}
 
@@ -17,6 +17,7 @@ least_unique {d} {f} {g} a b = omega (arith, a.least g b.above, b.least f a.abov
 -- the rule, for a bin that is not 0
 pub reciprocal_rule : (d : ℕ) → 0 < d → LeastAbove d (reciprocal d)
 unfolding reciprocal
+reciprocal_rule zero h = elim h [ ]
 reciprocal_rule (suc d) h = quotient_least (suc d) h
 
 pub reciprocal-zero : reciprocal 0 ≡ 0
