@@ -16,7 +16,7 @@ mod putting;
 mod words;
 
 // A probe reading: not fitted, a percentage, or a fault code.
-#[derive(Drop)]
+#[derive(Clone, Copy)]
 pub enum Reading {
     NotFitted,
     Percentage(f32),
@@ -24,14 +24,14 @@ pub enum Reading {
 }
 
 // The bale's two readings.
-#[derive(Drop)]
+#[derive(Clone, Copy)]
 pub struct Note {
     pub before_drier: Reading,
     pub at_press: Reading,
 }
 
 // The kind byte and the number of a reading; or refusal 4 and 0.
-#[derive(Drop)]
+#[derive(Clone, Copy)]
 pub struct Code {
     pub refusal: u16,
     pub kind: u8,
@@ -39,21 +39,21 @@ pub struct Code {
 }
 
 // A reading; or refusal 4 and not fitted.
-#[derive(Drop)]
+#[derive(Clone, Copy)]
 pub struct Probe {
     pub refusal: u16,
     pub reading: Reading,
 }
 
 // The bytes of a file; or a refusal and 0.
-#[derive(Drop)]
+#[derive(Clone, Copy)]
 pub struct FileSize {
     pub refusal: u16,
     pub size: usize,
 }
 
 // What a file says of its bale; or a refusal, 0 in the numbers and not fitted in the readings.
-#[derive(Drop)]
+#[derive(Clone, Copy)]
 pub struct Bale {
     pub refusal: u16,
     pub settings: Settings,

@@ -7,7 +7,7 @@ ghost use Rattle.decimals.specs.Definitions.Text.{decimal, text_at, has_room, nu
 ghost use Rattle.decimals.specs.Inner.DigitAt.{digit_at};
 
 // A number that a text begins with: its value, and how many digits it has.
-#[derive(Drop)]
+#[derive(Clone, Copy)]
 pub struct Number {
     pub value: u32,
     pub digits: usize,

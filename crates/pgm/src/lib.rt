@@ -10,7 +10,7 @@ mod finding;
 mod putting;
 
 // The columns and rows of a picture; or a refusal and 0.
-#[derive(Drop)]
+#[derive(Clone, Copy)]
 pub struct PictureSize {
     pub refusal: u16,
     pub columns: u16,
@@ -18,14 +18,14 @@ pub struct PictureSize {
 }
 
 // The bytes of a PGM file; or a refusal and 0.
-#[derive(Drop)]
+#[derive(Clone, Copy)]
 pub struct PgmSize {
     pub refusal: u16,
     pub size: usize,
 }
 
 // A number of a header, and where it ends.
-#[derive(Drop)]
+#[derive(Clone, Copy)]
 struct Field {
     ok: bool,
     value: u32,
@@ -33,7 +33,7 @@ struct Field {
 }
 
 // What the header of a file says, and where its pixels start.
-#[derive(Drop)]
+#[derive(Clone, Copy)]
 struct Header {
     ok: bool,
     columns: u32,

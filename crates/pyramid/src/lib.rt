@@ -32,7 +32,7 @@ pub use ranging::range_ok;
 pub use ranging::widened;
 
 // Columns, rows, depth, kernel and the bin of each level in its slot (document 01, "Settings").
-#[derive(Drop)]
+#[derive(Clone, Copy)]
 pub struct Settings {
     pub columns: u16,
     pub rows: u16,
@@ -42,7 +42,7 @@ pub struct Settings {
 }
 
 // The columns and rows of a level, or a refusal and 0 by 0.
-#[derive(Drop)]
+#[derive(Clone, Copy)]
 pub struct LevelSize {
     pub refusal: u16,
     pub columns: u16,
@@ -50,28 +50,28 @@ pub struct LevelSize {
 }
 
 // The number of nodes of all levels, T, or a refusal and 0.
-#[derive(Drop)]
+#[derive(Clone, Copy)]
 pub struct Nodes {
     pub refusal: u16,
     pub nodes: u16,
 }
 
 // The bound of each level in its slot, 0 in the slots above the depth; or a refusal and 0 in all.
-#[derive(Drop)]
+#[derive(Clone, Copy)]
 pub struct Bounds {
     pub refusal: u16,
     pub levels: [u16; 7],
 }
 
 // The lowest and the highest of some indices and 0.
-#[derive(Drop)]
+#[derive(Clone, Copy)]
 pub struct IndexRange {
     pub low: i16,
     pub high: i16,
 }
 
 // The deepest depth of a size, or a refusal and 0.
-#[derive(Drop)]
+#[derive(Clone, Copy)]
 pub struct Deepest {
     pub refusal: u16,
     pub depth: u16,

@@ -11,7 +11,7 @@ pub(crate) const CODING: u16 = 0;
 pub(crate) const REBUILDING: u16 = 1;
 
 // The lengths of the buffers to lend: a picture of at most 48 pixels, at most 72 nodes.
-#[derive(Drop)]
+#[derive(Clone, Copy)]
 pub(crate) struct Lengths {
     pub picture: usize,
     pub levels: usize,
@@ -20,7 +20,7 @@ pub(crate) struct Lengths {
 
 // An index put at a place of the level buffer before a call. For a rebuilding that is accepted the place is one of level 0, so
 // that the index changes one node alone: its value and its pixel, which are known.
-#[derive(Drop)]
+#[derive(Clone, Copy)]
 pub(crate) struct Put {
     pub place: usize,
     pub index: i16,
@@ -94,7 +94,7 @@ fn is_refused(call: u16, s: Settings, n: Lengths, put: Put, answer: u16) -> bool
 const GREY: u8 = 200;
 
 // The top: its nodes, its index of 200, and that index times its bin, which is then every value of every level.
-#[derive(Drop)]
+#[derive(Clone, Copy)]
 struct Top {
     nodes: usize,
     index: i16,

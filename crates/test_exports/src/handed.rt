@@ -4,7 +4,7 @@ use pyramid::Settings;
 use test_support::comparing;
 
 // The answer, and what lies then in the memory that was lent for the shape, the bins, the kinds and the numbers.
-#[derive(Drop)]
+#[derive(Clone, Copy)]
 pub(crate) struct Handed {
     pub answer: u16,
     pub shape: [u16; 4],

@@ -10,7 +10,7 @@ use test_support::reporting::{Tally, checked, empty};
 use test_support::{comparing, fillers};
 
 // The index at a place, and its two bytes as a number: those of its two's complement.
-#[derive(Drop)]
+#[derive(Clone, Copy)]
 struct Put {
     place: usize,
     index: i16,

@@ -2,7 +2,7 @@
 use pyramid::Settings;
 
 // The kinds and the numbers of the readings before the drier and at the press.
-#[derive(Drop)]
+#[derive(Clone, Copy)]
 pub(crate) struct Readings {
     pub drier_kind: u8,
     pub drier_number: u32,

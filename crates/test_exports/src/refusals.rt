@@ -7,7 +7,7 @@ use test_support::fillers;
 use test_support::reporting::{Tally, checked, empty};
 
 // The places of the lent buffers.
-#[derive(Drop)]
+#[derive(Clone, Copy)]
 struct Lengths {
     picture: usize,
     levels: usize,

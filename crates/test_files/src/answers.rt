@@ -6,14 +6,14 @@ use test_support::reporting::{Finding, difference};
 use test_support::{comparing, decoding, reporting};
 
 // The kind and the number of a reading.
-#[derive(Drop)]
+#[derive(Clone, Copy)]
 pub(crate) struct Held {
     pub kind: u8,
     pub number: u32,
 }
 
 // A refusal, or settings and two readings.
-#[derive(Drop)]
+#[derive(Clone, Copy)]
 pub(crate) struct Expected {
     pub refusal: u16,
     pub settings: Settings,

@@ -2,7 +2,7 @@
 use test_support::{decoding, reading};
 
 // How a case starts: the answer of the reader that is lent no level buffer; T, or 0 where the shape is refused; the file's length.
-#[derive(Drop)]
+#[derive(Clone, Copy)]
 pub(crate) struct Head {
     pub refusal: u16,
     pub nodes: u16,

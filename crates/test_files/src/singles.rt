@@ -7,7 +7,7 @@ use test_support::reporting;
 use test_support::reporting::{Finding, Tally};
 
 // A reading; and its kind and number in the file, or refusal 4.
-#[derive(Drop)]
+#[derive(Clone, Copy)]
 pub(crate) struct Trial {
     pub reading: Reading,
     pub refusal: u16,

@@ -8,7 +8,7 @@ use test_support::reporting::{Finding, Tally, cut_unless, difference, either};
 use test_support::{decoding, reporting};
 
 // All cases, and those of each answer that the vectors hold.
-#[derive(Drop)]
+#[derive(Clone, Copy)]
 pub(crate) struct Found {
     pub all: Tally,
     pub accepted: Tally,
@@ -19,7 +19,7 @@ pub(crate) struct Found {
 }
 
 // The answer that a case says, and how the calls differ from it.
-#[derive(Drop)]
+#[derive(Clone, Copy)]
 struct Case {
     refusal: u16,
     finding: Finding,

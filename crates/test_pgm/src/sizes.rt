@@ -9,7 +9,7 @@ use test_support::reporting::{Finding, Tally, compared, difference, either, of_c
 use test_support::{comparing, fillers, reporting};
 
 // Two sides; the number of pixels, the place of the first and the size of the file, or refusal 1 and some numbers.
-#[derive(Drop)]
+#[derive(Clone, Copy)]
 struct Worked {
     columns: u16,
     rows: u16,

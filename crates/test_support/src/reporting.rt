@@ -12,7 +12,7 @@ pub const DATA_ENDS: u16 = 1;
 pub const CASE_CUT: u16 = 2;
 
 // The call and the part of a case that differ, and the first place there; or AGREES. Call 0 is none.
-#[derive(Drop)]
+#[derive(Clone, Copy)]
 pub struct Finding {
     pub call: u16,
     pub part: u16,
@@ -20,7 +20,7 @@ pub struct Finding {
 }
 
 // The cases, how many of them differ, and the first that does. Cases are numbered from 1.
-#[derive(Drop)]
+#[derive(Clone, Copy)]
 pub struct Tally {
     pub cases: u64,
     pub mismatches: u64,

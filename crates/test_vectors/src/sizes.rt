@@ -14,7 +14,7 @@ pub(crate) const AFTER: usize = 24;
 pub(crate) const MOST_PLACES: usize = MOST_NODES + AFTER;
 
 // What is in a case: its nodes, pixels and levels, or 0 of each for settings that have no sizes.
-#[derive(Drop)]
+#[derive(Clone, Copy)]
 pub(crate) struct Sizes {
     pub pixels: u32,
     pub nodes: u32,

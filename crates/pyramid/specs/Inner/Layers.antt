@@ -1,6 +1,6 @@
 -- Levels in buffers, for the contracts of functions inside this crate: what a level is predicted to be from the one above it, and what its
 -- indices and rebuilt values are then. Assumes nothing.
-use Rattle.std.specs.Prelude.{◌≡◌, List, ℕ, zero, suc, ◌+◌, ◌-◌, ◌≤◌, ℤ, pos, nat_abs, ◌+ℤ◌, ◌-ℤ◌, length}
+use Rattle.std.specs.Prelude.{◌≡◌, List, ℕ, zero, suc, ◌-◌, ◌≤◌, ℤ, pos, nat_abs, ◌+ℤ◌, ◌-ℤ◌, length}
 use Rattle.pyramid.specs.declared.Settings.{Settings}
 use Rattle.pyramid.specs.Definitions.Sizes.{Level, total}
 use Rattle.pyramid.specs.Definitions.Pyramid.{expanded, index_of}

@@ -1,5 +1,5 @@
 -- Demand 3, as one statement about a first picture and any list of generations. Assumes nothing.
-use Rattle.std.specs.Prelude.{◌≡◌, List, [], ◌∷◌, ℕ, ◌+◌, ◌-◌, ◌≤◌, ◌<◌, nat_abs, ◌-ℤ◌, length, get_or}
+use Rattle.std.specs.Prelude.{◌≡◌, List, [], ◌∷◌, ℕ, ◌≤◌, ◌<◌, nat_abs, ◌-ℤ◌, length, get_or}
 use Rattle.mathematics.specs.Definitions.Distances.{distance}
 use Rattle.pyramid.specs.Definitions.Sizes.{columns_at, rows_at}
 use Rattle.pyramid.specs.Definitions.Pyramid.{average}

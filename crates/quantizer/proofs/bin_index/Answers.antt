@@ -1,7 +1,7 @@
 -- `quantizer::bin_index` meets its contract, by what `divide` and `multiply` promise and the law of bins. Assumes nothing.
 use mathlib.Core.Path.{sym, ◌∙◌}
 use native.Mathlib.Omega.{arith}
-use borrow.Author.Rules.{rules, sfits_of}
+use borrow.Author.Rules.{sfits_of}
 use lib.IntN.{pos, negsuc}
 use Rattle.mathematics.proofs.IntegerLaws.{abs_between, le_ℤ_true}
 use Rattle.mathematics.proofs.Held.{held, held_is}

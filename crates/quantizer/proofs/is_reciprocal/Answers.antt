@@ -3,7 +3,6 @@ use mathlib.Core.Bool.{false≢true}
 use Prim.Native.Nat.{◌+◌, ◌*◌, ◌≤◌}
 use native.Mathlib.Nat.{mul-le-mul_right}
 use native.Mathlib.Omega.{arith}
-use borrow.Author.Rules.{rules}
 use borrow.Author.Tests.{leb-true, leb-false}
 use Rattle.quantizer.proofs.is_reciprocal.Goals as goal
 

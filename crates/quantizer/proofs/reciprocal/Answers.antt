@@ -2,7 +2,6 @@
 use mathlib.Core.Path.{sym}
 use native.Mathlib.Nat.{div-le_self}
 use native.Mathlib.Omega.{arith}
-use borrow.Author.Rules.{rules}
 use Rattle.quantizer.specs.Definitions.Reciprocals.Law.{quotient_least, least_unique, reciprocal_rule, reciprocal-zero}
 use Rattle.quantizer.proofs.reciprocal.Goals as goal
 

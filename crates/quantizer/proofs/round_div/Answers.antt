@@ -1,7 +1,7 @@
 -- `quantizer::round_div` meets its contract, by what `divide` promises and the law of rounding. Assumes nothing.
 use mathlib.Core.Path.{sym, ◌∙◌}
 use native.Mathlib.Omega.{arith}
-use borrow.Author.Rules.{rules, sfits_of}
+use borrow.Author.Rules.{sfits_of}
 use Rattle.mathematics.proofs.Held.{held_is}
 use Rattle.quantizer.specs.Definitions.Rounding.Law.{round_zero}
 use Rattle.quantizer.proofs.Rounding.{floor_round}

@@ -1,5 +1,5 @@
 -- `reciprocal` is the smallest whole number above 2^31/d, and the only one that is. Assumes nothing.
-use Rattle.std.specs.Prelude.{◌≡◌, refl, ℕ, zero, suc, ◌+◌, ◌*◌, ◌/◌, ◌%◌, ◌<◌}
+use Rattle.std.specs.Prelude.{◌≡◌, refl, ℕ, zero, suc, ◌+◌, ◌/◌, ◌<◌}
 use Rattle.std.proofs.Common.{div-add-mod', mod-lt, lt_of_mul-lt-mul_right, arith}
 use Rattle.quantizer.specs.Definitions.Reciprocals.{reciprocal, LeastAbove}
 

@@ -1,0 +1,10 @@
+-- `pyramid::bounding::bound_slots` meets its contract. The loop's invariant: b is the bound of level l, and the slots from l on are filled.
+-- The measure is l. Assumes nothing.
+use Rattle.pyramid.proofs.BoundSlots.{Filled}
+use Rattle.pyramid.proofs.bounding.bound_slots.Given as goal
+
+abbrev pub invariant-loop-l : goal.invariant-loop-l
+invariant-loop-l v = Filled v.s v.out v.l v.b
+
+abbrev pub decreases-loop-l : goal.decreases-loop-l
+decreases-loop-l v = v.l

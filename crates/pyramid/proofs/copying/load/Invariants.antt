@@ -1,0 +1,13 @@
+-- `pyramid::copying::load` meets its contract: each turn of its loop stores one pixel. Assumes nothing.
+use Prim.Native.Nat.{◌-◌}
+use lib.IntN.{pos}
+use lib.ListN.{length, get_or}
+use Rattle.mathematics.proofs.Filling.{Filling}
+use Rattle.pyramid.proofs.copying.load.Given as goal
+
+abbrev pub invariant-loop-i : goal.invariant-loop-i
+invariant-loop-i v =
+    Filling v.at (length v.picture) (λ k. pos (get_or v.picture k 0)) v.initial.work v.work v.i
+
+abbrev pub decreases-loop-i : goal.decreases-loop-i
+decreases-loop-i v = length v.picture - v.i
