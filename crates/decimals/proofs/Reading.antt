@@ -1,5 +1,5 @@
 -- A number read digit by digit: each turn of the loop takes the next digit, until there is none or there are enough. Assumes nothing.
-use mathlib.Core.Path.{◌≡◌, refl, sym, ap, ◌∙◌}
+use mathlib.Core.Path.{◌≡◌, refl, ◌∙◌}
 use mathlib.Core.Logic.{◌⊎◌, inl, inr}
 use mathlib.Core.Bool.{Bool, true, false, cond, ◌&&◌}
 use mathlib.Core.List.{List, [], ◌∷◌}
@@ -9,11 +9,10 @@ use native.Mathlib.Decide.{dec_le, dec_lt}
 use native.Mathlib.Numerals.{add-one}
 use native.Mathlib.Omega.{arith}
 use borrow.Author.Tests.{le-leb, lt-leb}
-use lib.Dec.{T, leb, leb→le}
+use lib.Dec.{leb}
 use lib.ListN.{length, get_or, drop, length-drop, drop_of_length-le, get_or-eq_default}
 use lib.Seq.{drop-cons}
-use Rattle.mathematics.proofs.Tests.{both, cond_elim}
-use Rattle.decimals.specs.declared.Number.{Number}
+use Rattle.mathematics.proofs.Tests.{cond_elim}
 use Rattle.decimals.specs.Definitions.Digits.{value}
 use Rattle.decimals.specs.Definitions.Text.{is_digit, leading_digits, number_at}
 use Rattle.decimals.specs.Inner.DigitAt.{digit_at}

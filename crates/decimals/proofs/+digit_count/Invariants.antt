@@ -1,4 +1,4 @@
 use Rattle.decimals.proofs.+digit_count.Given as goal
 
 abbrev pub decreases-digit_count : goal.decreases-digit_count
-decreases-digit_count l = ?
+decreases-digit_count l = l.n
