@@ -1,22 +1,22 @@
 -- Demand 3 of files: whatever list of copies follows, the file at hand holds some picture that was coded and written with the first note, and
 -- that lies as near the first picture as the bounds before it say. Assumes nothing.
 use mathlib.Core.Path.{◌≡◌, refl, sym, ap, ◌∙◌, subst}
-use mathlib.Core.List.{List, [], ◌∷◌, ◌++◌}
-use Prim.Native.Nat.{ℕ, zero, suc, ◌+◌, ◌*◌, ◌≤◌}
+use mathlib.Core.List.{List, [], ◌∷◌}
+use Prim.Native.Nat.{ℕ, ◌+◌, ◌*◌, ◌≤◌}
 use mathlib.Core.Logic.{⊎_elim, ◌≢◌}
 use native.Mathlib.Nat.{le_refl, add-zero}
 use native.Mathlib.Decide.{ℕ_discrete}
 use native.Mathlib.Omega.{arith}
 use lib.Dec.{T}
 use lib.IntN.{ℤ, pos}
-use lib.ListN.{length, get_or, take, drop, replicate, length-replicate}
+use lib.ListN.{length, get_or, drop, replicate, length-replicate}
 use lib.Seq.{take_at}
 use Rattle.mathematics.specs.Definitions.Distances.{distance}
 use Rattle.pyramid.specs.declared.Settings.{Settings}
 use Rattle.pyramid.specs.Definitions.Sizes.{total}
 use Rattle.pyramid.specs.Definitions.Bound.{bound_at}
 use Rattle.pyramid.specs.Definitions.Buffers.{Bytes}
-use Rattle.pyramid.specs.Definitions.Calls.{leaves, coding, rebuilding}
+use Rattle.pyramid.specs.Definitions.Calls.{coding, rebuilding}
 use Rattle.pyramid.proofs.Refusals.{first_nil, first_none, first_pass, leaves_new, leaves_kept}
 use Rattle.pyramid.proofs.CodedLevels.{coding_accepts, coded-pixels, rebuilding_accepts}
 use Rattle.pyramid.proofs.Accuracy.{rebuilt_near, rebuilt-size, rebuilt_bytes}
@@ -25,7 +25,7 @@ use Rattle.bale.specs.declared.Bale.{Bale}
 use Rattle.bale.specs.Definitions.Readings.{HeldReading, note_ok}
 use Rattle.bale.specs.Definitions.Files.{file_of, file_length}
 use Rattle.bale.specs.Definitions.Reader.{settings_in}
-use Rattle.bale.specs.Definitions.Calls.{WriteOutcome, ReadOutcome, write_refusal, write_file, read_refusal, check_refusal, bale_of, check_file, read_file}
+use Rattle.bale.specs.Definitions.Calls.{ReadOutcome, write_file, read_refusal, bale_of, check_file, read_file}
 use Rattle.bale.specs.Definitions.Copies.{Filing, Copy, written_bytes, first_coded, first_written, filing_refusal, source, shown, recoded, rewritten, copy_refusal, copied, copy_bound, file_after, copies_sum}
 use Rattle.bale.specs.Theorems.RoundTrips.{Held, WrittenIsRead}
 use Rattle.bale.specs.Theorems.Archive.{ShownWithin, Shows, Archive}

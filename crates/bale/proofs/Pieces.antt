@@ -10,7 +10,7 @@ use lib.ListN.{length, get_or, take, drop, length-map, length-append}
 use lib.Seq.{length-take-le, take_all, take-suc, drop-drop}
 use mir.Syntax.{w16}
 use mir.Facts.{sfits_to_z}
-use mir.Val.{SFits, to_z}
+use mir.Val.{SFits}
 use Rattle.mathematics.specs.Inner.Splices.{splice, part}
 use Rattle.mathematics.specs.Definitions.Tables.{tabulate}
 use Rattle.mathematics.proofs.Held.{short, short_is}

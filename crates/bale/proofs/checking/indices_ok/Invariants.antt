@@ -1,0 +1,11 @@
+-- `bale::checking::indices_ok` meets its contract: each turn of its loop widens the range by one index. Assumes nothing.
+use Prim.Native.Nat.{◌-◌}
+use Rattle.pyramid.proofs.IndexRanges.{Ranged}
+use Rattle.bale.specs.Definitions.Words.{indices_at}
+use Rattle.bale.proofs.checking.indices_ok.Given as goal
+
+abbrev pub invariant-loop-i : goal.invariant-loop-i
+invariant-loop-i v = Ranged v.bin (indices_at v.file v.at v.count) v.i v.range
+
+abbrev pub decreases-loop-i : goal.decreases-loop-i
+decreases-loop-i v = v.count - v.i

@@ -1,0 +1,11 @@
+-- `bale::filling::fill_indices` meets its contract: each turn of its loop stores one index. Assumes nothing.
+use Prim.Native.Nat.{◌+◌, ◌-◌, ◌*◌}
+use Rattle.mathematics.proofs.Filling.{Filling}
+use Rattle.bale.specs.Definitions.Words.{u16_at, word_index}
+use Rattle.bale.proofs.filling.fill_indices.Given as goal
+
+abbrev pub invariant-loop-i : goal.invariant-loop-i
+invariant-loop-i v = Filling v.from v.count (λ k. word_index (u16_at v.file (v.at + 2 * k))) v.initial.levels v.levels v.i
+
+abbrev pub decreases-loop-i : goal.decreases-loop-i
+decreases-loop-i v = v.count - v.i

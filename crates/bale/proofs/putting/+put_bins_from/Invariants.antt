@@ -1,0 +1,4 @@
+use Rattle.bale.proofs.putting.+put_bins_from.Given as goal
+
+abbrev pub decreases-put_bins_from : goal.decreases-put_bins_from
+decreases-put_bins_from l = l.level
