@@ -7,14 +7,13 @@ use Prim.Native.Nat.{ℕ, ◌+◌, ◌-◌, ◌*◌, ◌≤◌}
 use native.Mathlib.Nat.{mul-le-mul}
 use native.Mathlib.Omega.{arith}
 use borrow.Author.Tests.{not-true, not-false, eq-eqb, ne_eqb}
-use lib.Dec.{T, leb, eqb, eqb→eq, leb→le}
+use lib.Dec.{T, eqb, eqb→eq}
 use lib.ListN.{length, take, drop, length-drop}
 use lib.Seq.{take_all}
 use Rattle.mathematics.specs.Inner.Splices.{splice}
 use Rattle.mathematics.proofs.Splices.{splice_whole}
 use Rattle.pyramid.specs.Definitions.Settings.{size_ok}
 use Rattle.pyramid.specs.Definitions.Refusals.{unless, first}
-use Rattle.pyramid.specs.Definitions.Calls.{leaves}
 use Rattle.pyramid.specs.Checks.Conditions.{SideRule}
 use Rattle.pyramid.proofs.Refusals.{first_nil, first_none, unless_none, unless_fails, answers_stop, answers_skip, answers_fails, answers_passes, leaves_kept}
 use Rattle.pyramid.proofs.RuleTests.{size_decides}

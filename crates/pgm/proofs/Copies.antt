@@ -1,7 +1,7 @@
 -- Bytes that are copied by way of another buffer. Assumes nothing.
 use mathlib.Core.Path.{◌≡◌, refl, ap, ◌∙◌}
 use mathlib.Core.List.{List}
-use Prim.Native.Nat.{ℕ, ◌+◌, ◌≤◌}
+use Prim.Native.Nat.{ℕ}
 use lib.ListN.{length, take, drop}
 use lib.Seq.{take_at}
 use Rattle.mathematics.specs.Inner.Splices.{splice}

@@ -10,7 +10,7 @@ use Rattle.decimals.specs.declared.Number.{Number}
 use Rattle.decimals.specs.Definitions.Text.{number_at}
 use Rattle.pgm.specs.declared.Field.{Field}
 use Rattle.pgm.specs.declared.Header.{Header}
-use Rattle.pgm.specs.Definitions.Header.{is_space, digits_place, number_in, number_end, number_ok, header_ok, rows_place, greatest_place, last_space, pixels_place}
+use Rattle.pgm.specs.Definitions.Header.{is_space, digits_place, number_in, number_end, number_ok, header_ok, rows_place, greatest_place, last_space}
 use Rattle.pgm.specs.Inner.Found.{field_at, header_in}
 use Rattle.pgm.proofs.Passing.{end_within}
 

@@ -1,14 +1,13 @@
 -- White space and comments passed byte by byte, and how far a number of the header can reach. Assumes nothing.
-use mathlib.Core.Path.{◌≡◌, refl, sym, ap, ◌∙◌}
-use mathlib.Core.Bool.{Bool, true, false, not, cond, true≢false, ◌||◌}
+use mathlib.Core.Path.{◌≡◌, refl, sym, ◌∙◌}
+use mathlib.Core.Bool.{Bool, true, false, not, true≢false, ◌||◌}
 use mathlib.Core.List.{List, [], ◌∷◌}
-use Prim.Native.Nat.{ℕ, suc, ◌+◌, ◌-◌, ◌≤◌, ◌<◌}
+use Prim.Native.Nat.{ℕ, suc, ◌+◌, ◌≤◌, ◌<◌}
 use native.Mathlib.Omega.{arith}
 use lib.Dec.{eqb}
 use lib.ListN.{length, get_or, drop, length-drop, drop_of_length-le}
 use lib.Seq.{drop-cons}
 use Rattle.mathematics.proofs.Tests.{cond_elim}
-use Rattle.decimals.specs.Definitions.Text.{number_at}
 use Rattle.decimals.proofs.Reading.{number_within}
 use Rattle.pgm.specs.Definitions.Header.{is_space, spaces, digits_place, number_end}
 use Rattle.pgm.specs.Inner.Found.{passed, inside_after}

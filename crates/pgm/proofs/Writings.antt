@@ -2,11 +2,11 @@
 use mathlib.Core.Path.{◌≡◌, refl, sym, ap, ◌∙◌}
 use mathlib.Core.Logic.{◌≢◌}
 use mathlib.Core.List.{List, [], ◌∷◌, ◌++◌, append_assoc}
-use Prim.Native.Nat.{ℕ, suc, ◌+◌, ◌*◌, ◌/◌, ◌≤◌, ◌<◌}
-use native.Mathlib.Nat.{zero-add, add-zero, add_assoc}
+use Prim.Native.Nat.{ℕ, ◌+◌, ◌*◌, ◌≤◌, ◌<◌}
+use native.Mathlib.Nat.{add-zero}
 use native.Mathlib.Omega.{arith}
 use borrow.Author.Tests.{eq-eqb, ne_eqb, le-leb, lt-leb}
-use lib.Dec.{T, leb, eqb, eqb→eq, leb→le}
+use lib.Dec.{leb}
 use lib.ListN.{length, set, drop, length-append}
 use Rattle.mathematics.specs.Inner.Splices.{splice}
 use Rattle.mathematics.proofs.Splices.{splice_nil, splice-set, splice_append, splice_front, length-splice}
@@ -14,7 +14,6 @@ use Rattle.decimals.specs.Definitions.Text.{decimal}
 use Rattle.decimals.proofs.Counting.{decimal_one, decimal-more, count_most, Put, put_room}
 use Rattle.pyramid.specs.Definitions.Settings.{size_ok}
 use Rattle.pyramid.specs.Definitions.Refusals.{unless, first}
-use Rattle.pyramid.specs.Definitions.Calls.{leaves}
 use Rattle.pyramid.proofs.Refusals.{first_nil, unless_holds, answers_stop, answers_skip, answers_fails, answers_passes, leaves_new, leaves_kept}
 use Rattle.pgm.specs.declared.PgmSize.{PgmSize}
 use Rattle.pgm.specs.Definitions.Files.{number_then, header_of, pgm_of, pgm_length}

@@ -1,6 +1,6 @@
 -- The header of a PGM file (document 02, P2): P5, three numbers with white space before each, and one white space byte before the pixels.
 -- Bytes by their codes: 80 is P, 53 is 5, 35 is #, 10 is newline. Assumes nothing.
-use Rattle.std.specs.Prelude.{Bool, true, false, not, cond, ◌&&◌, ◌||◌, List, [], ◌∷◌, ℕ, suc, ◌+◌, leb, ltb, eqb, length, get_or, drop}
+use Rattle.std.specs.Prelude.{Bool, true, false, not, cond, ◌&&◌, ◌||◌, List, [], ◌∷◌, ℕ, suc, ◌+◌, ltb, eqb, get_or, drop}
 use Rattle.decimals.specs.Definitions.Text.{number_at}
 
 -- space, tab, newline or carriage return
