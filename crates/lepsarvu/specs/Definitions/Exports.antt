@@ -6,7 +6,7 @@ use Rattle.pyramid.specs.Definitions.Calls.{leaves}
 use Rattle.bale.specs.declared.Note.{Note}
 use Rattle.bale.specs.Definitions.Readings.{code_of, decode}
 use Rattle.bale.specs.Definitions.Files.{file_length}
-use Rattle.bale.specs.Definitions.Calls.{WriteOutcome, write_refusal, write_file}
+use Rattle.bale.specs.Definitions.Calls.{write_refusal, write_file}
 
 -- settings of the numbers that are handed in
 abbrev pub settings_of : (columns rows depth kernel : ℕ) → List ℕ → Settings
