@@ -1,39 +1,20 @@
 // Standard input, in the start of a buffer.
-ghost use Rattle.std.specs.Prelude.{◌≤◌, length};
+ghost use Rattle.std.specs.Prelude.{◌≤◌, length, IfOk};
 
-use libc::STDIN_FILENO;
+use std::io;
+use std::io::Read;
 
-// How many bytes were read. It is whole where the input or the buffer ended there, and not where a read failed.
-#[derive(Drop)]
-pub(crate) struct Input {
-    pub is_whole: bool,
-    pub length: usize,
-}
-
-// Reads until the input ends, the buffer is full or a read fails.
-pub(crate) fn read_all(space: &mut [u8]) -> Input
-    ensures { result.length ≤ length space.new }
+// Reads until the input ends or the buffer is full, and answers how many bytes were read.
+pub(crate) fn read_all<R: Read>(input: &mut R, space: &mut [u8]) -> io::Result<usize>
+    ensures { IfOk result (λ n. n ≤ length space.new) }
 {
     let mut n = 0;
     while n < space.len() {
-        let got = libc::read(STDIN_FILENO, &mut space[n..]);
-        if got < 0 {
-            return Input {
-                is_whole: false,
-                length: n,
-            };
-        }
-        let more = io::count(got, &space[n..]);
+        let more = input.read(&mut space[n..])?;
         if more == 0 {
-            return Input {
-                is_whole: true,
-                length: n,
-            };
+            return Ok(n);
         }
         n += more;
     }
-    Input {
-        is_whole: true,
-        length: n,
-    }
+    Ok(n)
 }

@@ -1,19 +1,21 @@
-// The listing of a bale file, on standard output. Each function answers whether all was written.
+// The listing of a bale file, to a writer.
 ghost use Rattle.std.specs.Prelude.{◌<◌};
 
 use bale::{Bale, Note, Reading};
-use libc::STDOUT_FILENO;
 use pyramid::Settings;
+use std::io;
+use std::io::Write;
 
-fn text(bytes: &[u8]) -> bool {
-    io::write_all(STDOUT_FILENO, bytes)
+fn text<W: Write>(out: &mut W, bytes: &[u8]) -> io::Result<()> {
+    out.write_all(bytes)
 }
 
 // Text, and a number in decimal after it.
-fn number(word: &[u8], n: u32) -> bool {
+fn number<W: Write>(out: &mut W, word: &[u8], n: u32) -> io::Result<()> {
     let mut digits = [0; 10];
     let count = decimals::put_decimal(n, &mut digits, 0);
-    text(word) && text(&digits[..count])
+    text(out, word)?;
+    text(out, &digits[..count])
 }
 
 // The last hexadecimal digit of a number, in upper case.
@@ -23,7 +25,7 @@ fn digit(n: u32) -> u8 {
 }
 
 // Eight hexadecimal digits.
-fn hexadecimal(n: u32) -> bool {
+fn hexadecimal<W: Write>(out: &mut W, n: u32) -> io::Result<()> {
     let digits = [
         digit(n / 268435456),
         digit(n / 16777216),
@@ -34,75 +36,80 @@ fn hexadecimal(n: u32) -> bool {
         digit(n / 16),
         digit(n),
     ];
-    text(&digits)
+    text(out, &digits)
 }
 
-fn print_reading(reading: Reading) -> bool {
+fn print_reading<W: Write>(out: &mut W, reading: Reading) -> io::Result<()> {
     let code = bale::reading_code(reading);
     let kind = code.kind;
     match kind {
-        0 => text(b"none"),
-        1 => hexadecimal(code.number),
-        _ => number(b"fault ", code.number),
+        0 => text(out, b"none"),
+        1 => hexadecimal(out, code.number),
+        _ => number(out, b"fault ", code.number),
     }
 }
 
-fn print_picture(s: Settings) -> bool {
-    number(b"picture ", s.columns as u32)
-        && number(b" ", s.rows as u32)
-        && number(b" depth ", s.depth as u32)
-        && number(b" kernel ", s.kernel as u32)
-        && text(b"\n")
+fn print_picture<W: Write>(out: &mut W, s: Settings) -> io::Result<()> {
+    number(out, b"picture ", s.columns as u32)?;
+    number(out, b" ", s.rows as u32)?;
+    number(out, b" depth ", s.depth as u32)?;
+    number(out, b" kernel ", s.kernel as u32)?;
+    text(out, b"\n")
 }
 
-fn print_note(note: Note) -> bool {
+fn print_note<W: Write>(out: &mut W, note: Note) -> io::Result<()> {
     let drier = note.before_drier;
     let press = note.at_press;
-    text(b"moisture ") && print_reading(drier) && text(b" ") && print_reading(press) && text(b"\n")
+    text(out, b"moisture ")?;
+    print_reading(out, drier)?;
+    text(out, b" ")?;
+    print_reading(out, press)?;
+    text(out, b"\n")
 }
 
 // A level: its columns, rows, bin and bound.
-fn print_level(s: Settings, bounds: [u16; 7], level: u16) -> bool
+fn print_level<W: Write>(out: &mut W, s: Settings, bounds: [u16; 7], level: u16) -> io::Result<()>
     requires { level < 7 }
 {
     let bins = s.bins;
     let slot = level as usize;
     let size = pyramid::level_size(s, level);
-    number(b"level ", level as u32)
-        && number(b" ", size.columns as u32)
-        && number(b" ", size.rows as u32)
-        && number(b" bin ", bins[slot] as u32)
-        && number(b" within ", bounds[slot] as u32)
-        && text(b"\n")
+    number(out, b"level ", level as u32)?;
+    number(out, b" ", size.columns as u32)?;
+    number(out, b" ", size.rows as u32)?;
+    number(out, b" bin ", bins[slot] as u32)?;
+    number(out, b" within ", bounds[slot] as u32)?;
+    text(out, b"\n")
 }
 
 // From level N down.
-fn print_levels(s: Settings) -> bool {
+fn print_levels<W: Write>(out: &mut W, s: Settings) -> io::Result<()> {
     let within = pyramid::level_bounds(s);
     let bounds = within.levels;
     let mut level: u16 = 7;
     while 0 < level {
         level -= 1;
         if level <= s.depth {
-            if !print_level(s, bounds, level) {
-                return false;
-            }
+            print_level(out, s, bounds, level)?;
         }
     }
-    true
+    Ok(())
 }
 
-fn print_bale(b: Bale) -> bool {
+fn print_bale<W: Write>(out: &mut W, b: Bale) -> io::Result<()> {
     let s = b.settings;
     let note = b.note;
-    print_picture(s) && print_note(note) && print_levels(s)
+    print_picture(out, s)?;
+    print_note(out, note)?;
+    print_levels(out, s)
 }
 
 // The listing of a file that is accepted, or the refusal.
-pub(crate) fn print(file: &[u8]) -> bool {
+pub(crate) fn print<W: Write>(out: &mut W, file: &[u8]) -> io::Result<()> {
     let b = bale::check_file(file);
     if b.refusal != 0 {
-        return number(b"refused ", b.refusal as u32) && text(b"\n");
+        number(out, b"refused ", b.refusal as u32)?;
+        return text(out, b"\n");
     }
-    print_bale(b)
+    print_bale(out, b)
 }

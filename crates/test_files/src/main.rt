@@ -12,24 +12,21 @@ mod reading;
 mod singles;
 mod writers;
 
-use libc::STDOUT_FILENO;
+use std::{fs, io};
 
 // Runs the cases of the vectors and writes their line.
-fn report(path: &[u8]) {
-    let fd = os::open_read(path);
-    if fd < 0 {
-        io::write_all(STDOUT_FILENO, path);
-        io::write_all(STDOUT_FILENO, b": cannot be opened\n");
-        return;
-    }
-    let tally = cases::check_all(fd);
-    libc::close(fd);
-    parts::print(path, tally);
+fn report(rt: &HostRuntime, path: &str) -> io::Result<()> {
+    let Ok(mut data) = fs::open(rt, path) else {
+        return println!(rt; "{path}: cannot be opened");
+    };
+    let tally = cases::check_all(&mut data)?;
+    parts::print(&mut rt.stdout(), path, tally)
 }
 
-fn main() {
-    report(b"files.bin");
-    parts::print(b"sets of faults, writing", faults::check_all());
-    parts::print(b"single readings, writing", singles::check_all());
-    parts::print(b"readings and their codes", codes::check_all());
+fn main(rt: HostRuntime) -> io::Result<()> {
+    report(&rt, "files.bin")?;
+    let mut out = rt.stdout();
+    parts::print(&mut out, "sets of faults, writing", faults::check_all())?;
+    parts::print(&mut out, "single readings, writing", singles::check_all())?;
+    parts::print(&mut out, "readings and their codes", codes::check_all())
 }

@@ -1,4 +1,6 @@
 // The calls that a case makes, and the parts of what a call answers and leaves, after those that every program has.
+use std::io;
+use std::io::Write;
 use test_support::reporting;
 use test_support::reporting::Tally;
 
@@ -47,11 +49,13 @@ pub(crate) const CODE: u16 = 11;
 
 // Writes the line of a group of cases, and where its first mismatch is: for a refusal, a size or a
 // code's kind, the one that was answered.
-pub(crate) fn print(group: &[u8], t: Tally) {
+pub(crate) fn print<W: Write>(out: &mut W, group: &str, t: Tally) -> io::Result<()> {
     reporting::print_cases(
-        group,
+        out,
+        group.as_bytes(),
         t,
         b"|check_file, |read_file, |read_file with a place more, |read_file with a place fewer, |file_size, |write_file, |write_file with bytes more, |write_file with a byte fewer, |reading_code, |coded_reading, |",
         b"||end of the vectors|refusal|setting|reading|index|index to be kept|size|byte|byte to be kept|code|",
-    );
+    )?;
+    Ok(())
 }

@@ -1,4 +1,6 @@
 // Reads cases from the vectors.
+use std::io;
+use std::io::Read;
 use test_support::{decoding, reading};
 
 // How a case starts: the answer of the reader that is lent no level buffer; T, or 0 where the shape is refused; the file's length.
@@ -18,12 +20,17 @@ pub(crate) fn head_of(bytes: &[u8]) -> Head {
 }
 
 // Reads what an accepted file says: its settings and readings, and then its indices. A refused one says nothing.
-pub(crate) fn read_said(fd: i32, h: Head, said: &mut [u8], indices: &mut [u8]) -> bool {
+pub(crate) fn read_said<R: Read>(
+    data: &mut R,
+    h: Head,
+    said: &mut [u8],
+    indices: &mut [u8],
+) -> io::Result<bool> {
     if h.refusal != 0 {
-        return true;
+        return Ok(true);
     }
-    if reading::read_exactly(fd, said, 32) {
-        return reading::read_exactly(fd, indices, 2 * h.nodes as usize);
+    if reading::read_exactly(data, said, 32)? {
+        return reading::read_exactly(data, indices, 2 * h.nodes as usize);
     }
-    false
+    Ok(false)
 }

@@ -2,6 +2,8 @@
 use crate::parts::{MOST_PIXELS, MOST_PLACES, MOST_SINGLE};
 use crate::{answers, parts, readers, writers};
 use pgm::PictureSize;
+use std::io;
+use std::io::Read;
 use test_support::comparing::least;
 use test_support::reading::{read_exactly, read_head};
 use test_support::reporting::{Finding, Tally, cut_unless, difference, either};
@@ -33,17 +35,20 @@ fn check_file(e: PictureSize, file: &[u8], more: &[u8], single: &[u8]) -> Findin
 }
 
 // Reads the single form that a case says.
-fn check_single(fd: i32, e: PictureSize, file: &[u8], more: &[u8]) -> Finding {
+fn check_single<R: Read>(
+    data: &mut R,
+    e: PictureSize,
+    file: &[u8],
+    more: &[u8],
+) -> io::Result<Finding> {
     let mut length: [u8; 4] = [0; 4];
     let mut single: [u8; MOST_SINGLE] = [0; MOST_SINGLE];
-    let is_said = read_exactly(fd, &mut length, 4);
+    let is_said = read_exactly(data, &mut length, 4)?;
     let size = decoding::unsigned32_at(&length, 0) as usize;
-    let is_read = read_exactly(fd, &mut single, size);
+    let is_read = read_exactly(data, &mut single, size)?;
     let n = least(size, MOST_SINGLE);
-    either(
-        cut_unless(is_said && is_read),
-        check_file(e, file, more, &single[0..n]),
-    )
+    let found = check_file(e, file, more, &single[0..n]);
+    Ok(either(cut_unless(is_said && is_read), found))
 }
 
 fn product(columns: u16, rows: u16) -> usize {
@@ -51,55 +56,55 @@ fn product(columns: u16, rows: u16) -> usize {
 }
 
 // Reads the picture that a case says.
-fn check_picture(fd: i32, e: PictureSize, file: &[u8]) -> Finding {
+fn check_picture<R: Read>(data: &mut R, e: PictureSize, file: &[u8]) -> io::Result<Finding> {
     let mut pixels: [u8; MOST_PLACES] = [0; MOST_PLACES];
     let n = product(e.columns, e.rows);
-    let is_read = read_exactly(fd, &mut pixels, n);
+    let is_read = read_exactly(data, &mut pixels, n)?;
     let m = least(n, MOST_PIXELS) + 1;
-    either(
-        cut_unless(is_read),
-        check_single(fd, e, file, &pixels[0..m]),
-    )
+    let found = check_single(data, e, file, &pixels[0..m])?;
+    Ok(either(cut_unless(is_read), found))
 }
 
 // Reads what the case says of its file: where it is accepted its sides, its picture and its single form.
-fn check_said(fd: i32, refusal: u16, file: &[u8]) -> Finding {
+fn check_said<R: Read>(data: &mut R, refusal: u16, file: &[u8]) -> io::Result<Finding> {
     if refusal != 0 {
-        return readers::check_read(answers::refused(refusal), file, b"");
+        return Ok(readers::check_read(answers::refused(refusal), file, b""));
     }
     let mut sides: [u8; 4] = [0; 4];
-    let is_read = read_exactly(fd, &mut sides, 4);
+    let is_read = read_exactly(data, &mut sides, 4)?;
     let columns = decoding::unsigned16_at(&sides, 0);
     let rows = decoding::unsigned16_at(&sides, 2);
     let e = answers::accepted(columns, rows);
-    either(cut_unless(is_read), check_picture(fd, e, file))
+    let found = check_picture(data, e, file)?;
+    Ok(either(cut_unless(is_read), found))
 }
 
 // The longest file has 65,551 bytes.
 const MOST: usize = 65551;
 
 // Reads the file of a case that starts so.
-fn check_started(fd: i32, refusal: u16, length: usize) -> Finding {
+fn check_started<R: Read>(data: &mut R, refusal: u16, length: usize) -> io::Result<Finding> {
     let mut file: [u8; MOST] = [0; MOST];
     let n = least(length, MOST);
-    let is_read = read_exactly(fd, &mut file, length);
-    either(cut_unless(is_read), check_said(fd, refusal, &file[0..n]))
+    let is_read = read_exactly(data, &mut file, length)?;
+    let found = check_said(data, refusal, &file[0..n])?;
+    Ok(either(cut_unless(is_read), found))
 }
 
 // Reads the next case.
-fn check_next(fd: i32) -> Case {
+fn check_next<R: Read>(data: &mut R) -> io::Result<Case> {
     let mut start: [u8; 6] = [0; 6];
-    let part = read_head(fd, &mut start);
+    let part = read_head(data, &mut start)?;
     let refusal = decoding::unsigned16_at(&start, 0);
     let mut finding = difference(part, 0);
     if part == reporting::AGREES {
         let length = decoding::unsigned32_at(&start, 2) as usize;
-        finding = check_started(fd, refusal, length);
+        finding = check_started(data, refusal, length)?;
     }
-    Case {
+    Ok(Case {
         refusal: refusal,
         finding: finding,
-    }
+    })
 }
 
 fn none() -> Found {
@@ -142,17 +147,17 @@ fn counted(t: Found, case: Case) -> Found {
 }
 
 // All cases to the end of the vectors. There are fewer than a million.
-pub(crate) fn check_all(fd: i32) -> Found {
+pub(crate) fn check_all<R: Read>(data: &mut R) -> io::Result<Found> {
     let mut found = none();
     let mut left: u32 = 1000000;
     while 0 < left {
-        let case = check_next(fd);
+        let case = check_next(data)?;
         let finding = case.finding;
         if finding.part == reporting::DATA_ENDS {
-            return found;
+            return Ok(found);
         }
         found = counted(found, case);
         left -= 1;
     }
-    found
+    Ok(found)
 }

@@ -11,32 +11,30 @@ mod sizes;
 mod texts;
 mod writers;
 
-use libc::STDOUT_FILENO;
+use std::{fs, io};
 
 // Runs the cases of the vectors and writes their lines: all, and those of each answer that they say.
-fn report(path: &[u8]) {
-    let fd = os::open_read(path);
-    if fd < 0 {
-        io::write_all(STDOUT_FILENO, path);
-        io::write_all(STDOUT_FILENO, b": cannot be opened\n");
-        return;
-    }
-    let found = cases::check_all(fd);
-    libc::close(fd);
-    parts::print(path, found.all);
-    parts::print(b"accepted", found.accepted);
-    parts::print(b"refused with 1", found.size);
-    parts::print(b"refused with 16", found.header);
-    parts::print(b"refused with 17", found.greatest);
-    parts::print(b"refused with 18", found.pixels);
+fn report(rt: &HostRuntime, path: &str) -> io::Result<()> {
+    let Ok(mut data) = fs::open(rt, path) else {
+        return println!(rt; "{path}: cannot be opened");
+    };
+    let found = cases::check_all(&mut data)?;
+    let mut out = rt.stdout();
+    parts::print(&mut out, path, found.all)?;
+    parts::print(&mut out, "accepted", found.accepted)?;
+    parts::print(&mut out, "refused with 1", found.size)?;
+    parts::print(&mut out, "refused with 16", found.header)?;
+    parts::print(&mut out, "refused with 17", found.greatest)?;
+    parts::print(&mut out, "refused with 18", found.pixels)
 }
 
-fn main() {
-    report(b"pgm.bin");
-    parts::print(b"sets of faults, reading", faults::check_all());
-    parts::print(b"sizes of files", sizes::check_sizes());
-    parts::print(b"sets of faults, writing", sizes::check_writings());
-    parts::print_checks(0, numbers::check_all());
-    parts::print_checks(1, texts::lengths());
-    parts::print_checks(2, texts::places());
+fn main(rt: HostRuntime) -> io::Result<()> {
+    report(&rt, "pgm.bin")?;
+    let mut out = rt.stdout();
+    parts::print(&mut out, "sets of faults, reading", faults::check_all())?;
+    parts::print(&mut out, "sizes of files", sizes::check_sizes())?;
+    parts::print(&mut out, "sets of faults, writing", sizes::check_writings())?;
+    parts::print_checks(&mut out, 0, numbers::check_all())?;
+    parts::print_checks(&mut out, 1, texts::lengths())?;
+    parts::print_checks(&mut out, 2, texts::places())
 }

@@ -1,4 +1,6 @@
 // The calls that a case makes, and the parts of what a call answers and leaves, after those that every program has.
+use std::io;
+use std::io::Write;
 use test_support::reporting;
 use test_support::reporting::Tally;
 
@@ -59,20 +61,24 @@ pub(crate) fn but_last(bytes: &[u8]) -> &[u8] {
 
 // Writes the line of a group of cases, and where its first mismatch is: for a refusal, a side or a
 // size, the one that was answered.
-pub(crate) fn print(group: &[u8], t: Tally) {
+pub(crate) fn print<W: Write>(out: &mut W, group: &str, t: Tally) -> io::Result<()> {
     reporting::print_cases(
-        group,
+        out,
+        group.as_bytes(),
         t,
         b"|check_pgm, |read_pgm, |read_pgm with a pixel more, |read_pgm with a pixel fewer, |pgm_size, |write_pgm, |write_pgm with bytes more, |write_pgm with a byte fewer, |write_pgm of a pixel more, |write_pgm of a pixel fewer, |read_pgm of what was written, |",
         b"||end of the vectors|refusal|columns|rows|pixel|pixel to be kept|size|byte|byte to be kept|",
-    );
+    )?;
+    Ok(())
 }
 
 // Writes the line of a group of checks.
-pub(crate) fn print_checks(group: u16, t: Tally) {
+pub(crate) fn print_checks<W: Write>(out: &mut W, group: u16, t: Tally) -> io::Result<()> {
     reporting::print_checks(
+        out,
         b"numbers in decimal, writing|numbers in decimal, digits and limits|numbers in decimal, places|",
         group,
         t,
-    );
+    )?;
+    Ok(())
 }

@@ -1,35 +1,53 @@
 // Reads the cases of a program's data.
-ghost use Rattle.std.specs.Prelude.{◌≡◌, true, false, ◌*◌, ◌/◌, ◌≤◌, ◌<◌, min, length, drop};
+ghost use Rattle.std.specs.Prelude.{◌≡◌, true, ◌*◌, ◌/◌, ◌≤◌, ◌<◌, min, length, drop, IfOk};
 ghost use Rattle.mathematics.specs.Definitions.Tables.{tabulate};
 ghost use Rattle.mathematics.specs.Inner.Splices.{splice};
 ghost use Rattle.test_support.specs.Definitions.Numbers.{signed16};
 
 use crate::{comparing, decoding, reporting};
+use std::io;
+use std::io::Read;
+
+// Reads until a buffer is full or the data ends, and answers how many bytes were read, to the buffer's start.
+fn read_full<R: Read>(data: &mut R, bytes: &mut [u8]) -> io::Result<usize>
+    ensures bound { IfOk result (λ n. n ≤ length bytes.new) }
+{
+    let mut n = 0;
+    while n < bytes.len() {
+        let more = data.read(&mut bytes[n..])?;
+        if more == 0 {
+            return Ok(n);
+        }
+        n += more;
+    }
+    Ok(n)
+}
 
 // Reads n bytes to the start of a buffer; false where the data ends before, or the buffer, which then is not changed.
-pub fn read_exactly(fd: i32, bytes: &mut [u8], n: usize) -> bool
-    ensures { (length bytes.new ≡ length bytes.old)
-        × (result ≡ true → n ≤ length bytes.old)
-        × (length bytes.old < n → bytes.new ≡ bytes.old) }
+pub fn read_exactly<R: Read>(data: &mut R, bytes: &mut [u8], n: usize) -> io::Result<bool>
+    ensures length { length bytes.new ≡ length bytes.old }
+    ensures room { IfOk result (λ is_read. is_read ≡ true → n ≤ length bytes.old) }
+    ensures kept { length bytes.old < n → bytes.new ≡ bytes.old }
 {
     if bytes.len() < n {
-        return false;
+        return Ok(false);
     }
-    io::read_full(fd, &mut bytes[0..n]) == n
+    Ok(read_full(data, &mut bytes[0..n])? == n)
 }
 
 // Fills a buffer with the start of the next case. The answer is AGREES, or DATA_ENDS where no case is left, or CASE_CUT.
-pub fn read_head(fd: i32, head: &mut [u8]) -> u16
-    ensures { (length head.new ≡ length head.old) × (result ≤ 2) }
+pub fn read_head<R: Read>(data: &mut R, head: &mut [u8]) -> io::Result<u16>
+    ensures length { length head.new ≡ length head.old }
+    ensures bound { IfOk result (λ part. part ≤ 2) }
 {
-    let got = io::read_full(fd, head);
+    let got = read_full(data, head)?;
     if got == head.len() {
-        return reporting::AGREES;
+        return Ok(reporting::AGREES);
     }
     if got == 0 {
-        return reporting::DATA_ENDS;
+        return Ok(reporting::DATA_ENDS);
     }
-    reporting::CASE_CUT
+    Ok(reporting::CASE_CUT)
 }
 
 // The bytes from a place on; none where there is no such place.

@@ -1,8 +1,9 @@
 // What a case is found to be, and the count of cases and mismatches of a group.
-ghost use Rattle.std.specs.Prelude.{◌≡◌, cond, eqb};
+ghost use Rattle.std.specs.Prelude.{◌≡◌, cond, eqb, IfOk};
 ghost use Rattle.test_support.specs.Definitions.Tallies.{differs, differs_below, next, counted};
 
-use libc::STDOUT_FILENO;
+use std::io;
+use std::io::Write;
 
 // The parts of a case that every program has; a program's own start at 3.
 pub const AGREES: u16 = 0;
@@ -124,58 +125,68 @@ pub fn checked(t: Tally, passed: bool) -> Tally
 }
 
 // Writes a name of a list whose names end in a bar each: the first is number 0. Writes nothing where there is no such name.
-fn print_name(names: &[u8], number: u16) {
+fn print_name<W: Write>(out: &mut W, names: &[u8], number: u16) -> io::Result<()> {
     let mut at = 0;
     let mut i = 0;
     while i < names.len() {
         if names[i] == b'|' {
             at += 1;
         } else if at == number as usize {
-            io::write_all(STDOUT_FILENO, &names[i..i + 1]);
+            out.write_all(&names[i..i + 1])?;
         }
         i += 1;
     }
+    Ok(())
 }
 
 // Writes the line of a tally, with the words before, between and after its two numbers, and the start of a second line where
 // there is a mismatch: which case is the first.
-fn print_tally(words: &[u8], t: Tally) {
-    print_name(words, 0);
-    io::print_decimal(STDOUT_FILENO, t.cases);
-    print_name(words, 1);
-    io::print_decimal(STDOUT_FILENO, t.mismatches);
-    print_name(words, 2);
+fn print_tally<W: Write>(out: &mut W, words: &[u8], t: Tally) -> io::Result<()> {
+    print_name(out, words, 0)?;
+    write!(out, "{}", t.cases)?;
+    print_name(out, words, 1)?;
+    write!(out, "{}", t.mismatches)?;
+    print_name(out, words, 2)?;
     if 0 < t.mismatches {
-        print_name(words, 3);
-        io::print_decimal(STDOUT_FILENO, t.first_case);
-        print_name(words, 4);
+        print_name(out, words, 3)?;
+        write!(out, "{}", t.first_case)?;
+        print_name(out, words, 4)?;
     }
+    Ok(())
 }
 
 // Writes the line of a group of checks, which has a name in a list of names, and which check is the first that failed.
 // Answers how many failed.
-pub fn print_checks(groups: &[u8], group: u16, t: Tally) -> u64
-    ensures { result ≡ t.mismatches }
+pub fn print_checks<W: Write>(out: &mut W, groups: &[u8], group: u16, t: Tally) -> io::Result<u64>
+    ensures { IfOk result (λ failed. failed ≡ t.mismatches) }
 {
-    print_name(groups, group);
-    print_tally(b": | checks, | failed\n|first failed: check |\n|", t);
-    t.mismatches
+    print_name(out, groups, group)?;
+    print_tally(out, b": | checks, | failed\n|first failed: check |\n|", t)?;
+    Ok(t.mismatches)
 }
 
 // Writes the line of a group of cases, and where its first mismatch is: the call, the part, which have names in lists of names,
 // and the place. Answers how many cases differ.
-pub fn print_cases(group: &[u8], t: Tally, calls: &[u8], parts: &[u8]) -> u64
-    ensures { result ≡ t.mismatches }
+pub fn print_cases<W: Write>(
+    out: &mut W,
+    group: &[u8],
+    t: Tally,
+    calls: &[u8],
+    parts: &[u8],
+) -> io::Result<u64>
+    ensures { IfOk result (λ mismatches. mismatches ≡ t.mismatches) }
 {
-    io::write_all(STDOUT_FILENO, group);
-    print_tally(b": | cases, | mismatches\n|first mismatch: case | at |", t);
+    out.write_all(group)?;
+    print_tally(
+        out,
+        b": | cases, | mismatches\n|first mismatch: case | at |",
+        t,
+    )?;
     if 0 < t.mismatches {
         let first = t.first;
-        print_name(calls, first.call);
-        print_name(parts, first.part);
-        io::write_all(STDOUT_FILENO, b" ");
-        io::print_decimal(STDOUT_FILENO, first.place as u64);
-        io::write_all(STDOUT_FILENO, b"\n");
+        print_name(out, calls, first.call)?;
+        print_name(out, parts, first.part)?;
+        writeln!(out, " {}", first.place)?;
     }
-    t.mismatches
+    Ok(t.mismatches)
 }

@@ -2,6 +2,8 @@
 use crate::sizes::Sizes;
 use crate::{levels_cases, parts, pyramid_cases, sizes};
 use pyramid::Settings;
+use std::io;
+use std::io::Read;
 use test_support::reporting::{Finding, Tally, compared, difference, either};
 use test_support::{decoding, reading, reporting};
 
@@ -19,37 +21,44 @@ fn check_sizes(z: Sizes) -> Finding {
 }
 
 // Reads and checks a case.
-fn check_read(kind: u16, fd: i32, s: Settings, z: Sizes, case: &mut [u8]) -> Finding {
+fn check_read<R: Read>(
+    kind: u16,
+    data: &mut R,
+    s: Settings,
+    z: Sizes,
+    case: &mut [u8],
+) -> io::Result<Finding> {
     if kind == PYRAMID {
-        return pyramid_cases::check_read(fd, s, z, case);
+        return pyramid_cases::check_read(data, s, z, case);
     }
-    levels_cases::check_read(fd, s, z, case)
+    levels_cases::check_read(data, s, z, case)
 }
 
 // Reads the settings of the next case, and then the case, which has 212,190 bytes at most.
-fn check_next(kind: u16, fd: i32) -> Finding {
+fn check_next<R: Read>(kind: u16, data: &mut R) -> io::Result<Finding> {
     let mut head: [u8; 22] = [0; 22];
     let mut case: [u8; 212190] = [0; 212190];
-    let part = reading::read_head(fd, &mut head);
+    let part = reading::read_head(data, &mut head)?;
     if part != reporting::AGREES {
-        return difference(part, 0);
+        return Ok(difference(part, 0));
     }
     let s = decoding::settings_of(&head);
     let z = sizes::sizes_of(s);
-    either(check_sizes(z), check_read(kind, fd, s, z, &mut case))
+    let found = check_read(kind, data, s, z, &mut case)?;
+    Ok(either(check_sizes(z), found))
 }
 
 // All cases to the end of the file. A file has fewer than a million.
-pub(crate) fn check_all(kind: u16, fd: i32) -> Tally {
+pub(crate) fn check_all<R: Read>(kind: u16, data: &mut R) -> io::Result<Tally> {
     let mut tally = reporting::empty();
     let mut left: u32 = 1000000;
     while 0 < left {
-        let finding = check_next(kind, fd);
+        let finding = check_next(kind, data)?;
         if finding.part == reporting::DATA_ENDS {
-            return tally;
+            return Ok(tally);
         }
         tally = reporting::counted(tally, finding);
         left -= 1;
     }
-    tally
+    Ok(tally)
 }

@@ -3,6 +3,8 @@
 use crate::rebuilding;
 use crate::sizes::Sizes;
 use pyramid::Settings;
+use std::io;
+use std::io::Read;
 use test_support::comparing::least;
 use test_support::reporting::{Finding, cut_unless, either};
 use test_support::{decoding, reading};
@@ -16,12 +18,17 @@ fn bytes_after(answer: u16, z: Sizes) -> usize {
 }
 
 // Reads a case and checks it.
-pub(crate) fn check_read(fd: i32, s: Settings, z: Sizes, case: &mut [u8]) -> Finding {
+pub(crate) fn check_read<R: Read>(
+    data: &mut R,
+    s: Settings,
+    z: Sizes,
+    case: &mut [u8],
+) -> io::Result<Finding> {
     let indices = 2 * z.nodes as usize;
-    let are_indices_read = reading::read_exactly(fd, case, indices + 2);
+    let are_indices_read = reading::read_exactly(data, case, indices + 2)?;
     let answer = decoding::unsigned16_at(case, indices);
     let end = least(indices + 2, case.len());
-    let is_rest_read = reading::read_exactly(fd, &mut case[end..], bytes_after(answer, z));
+    let is_rest_read = reading::read_exactly(data, &mut case[end..], bytes_after(answer, z))?;
     let rebuilt = rebuilding::check(s, z, answer, case, reading::rest(case, end));
-    either(cut_unless(are_indices_read && is_rest_read), rebuilt)
+    Ok(either(cut_unless(are_indices_read && is_rest_read), rebuilt))
 }

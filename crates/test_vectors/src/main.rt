@@ -11,22 +11,18 @@ mod rebuilding;
 mod sizes;
 
 use cases::{LEVELS, PYRAMID};
-use libc::STDOUT_FILENO;
+use std::{fs, io};
 
 // Runs the cases of a file and writes its line.
-fn report(kind: u16, path: &[u8]) {
-    let fd = os::open_read(path);
-    if fd < 0 {
-        io::write_all(STDOUT_FILENO, path);
-        io::write_all(STDOUT_FILENO, b": cannot be opened\n");
-        return;
-    }
-    let tally = cases::check_all(kind, fd);
-    libc::close(fd);
-    parts::print(path, tally);
+fn report(rt: &HostRuntime, kind: u16, path: &str) -> io::Result<()> {
+    let Ok(mut data) = fs::open(rt, path) else {
+        return println!(rt; "{path}: cannot be opened");
+    };
+    let tally = cases::check_all(kind, &mut data)?;
+    parts::print(&mut rt.stdout(), path, tally)
 }
 
-fn main() {
-    report(PYRAMID, b"pyramid.bin");
-    report(LEVELS, b"levels.bin");
+fn main(rt: HostRuntime) -> io::Result<()> {
+    report(&rt, PYRAMID, "pyramid.bin")?;
+    report(&rt, LEVELS, "levels.bin")
 }

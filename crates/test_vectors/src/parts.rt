@@ -1,4 +1,6 @@
 // The parts of a case that can differ, after those that every program has.
+use std::io;
+use std::io::Write;
 use test_support::reporting;
 use test_support::reporting::Tally;
 
@@ -33,11 +35,13 @@ pub(crate) const NODES_ANSWER: u16 = 16;
 pub(crate) const BOUNDS_ANSWER: u16 = 17;
 
 // Writes a file's line, and where its first mismatch is.
-pub(crate) fn print(path: &[u8], t: Tally) {
+pub(crate) fn print<W: Write>(out: &mut W, path: &str, t: Tally) -> io::Result<()> {
     reporting::print_cases(
-        path,
+        out,
+        path.as_bytes(),
         t,
         b"|",
         b"||end of file|settings|number of nodes|answer of coding|index|average|work after coding, place|answer of rebuilding|rebuilt value|work after rebuilding, place|pixel|bound of slot|picture of a refused rebuilding, place|work of a refused rebuilding, place|answer of the number of nodes|answer of the bounds|",
-    );
+    )?;
+    Ok(())
 }

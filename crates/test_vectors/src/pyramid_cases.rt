@@ -3,6 +3,8 @@
 use crate::sizes::Sizes;
 use crate::{coding, comparing, parts, rebuilding};
 use pyramid::Settings;
+use std::io;
+use std::io::Read;
 use test_support::reading;
 use test_support::reporting::{Finding, compared, cut_unless, difference, either};
 
@@ -34,10 +36,15 @@ fn check_calls(s: Settings, z: Sizes, case: &[u8]) -> Finding {
 }
 
 // Reads a case and checks it.
-pub(crate) fn check_read(fd: i32, s: Settings, z: Sizes, case: &mut [u8]) -> Finding {
+pub(crate) fn check_read<R: Read>(
+    data: &mut R,
+    s: Settings,
+    z: Sizes,
+    case: &mut [u8],
+) -> io::Result<Finding> {
     let bounds = 2 * z.pixels as usize + 8 * z.nodes as usize;
-    let is_read = reading::read_exactly(fd, case, bounds + 2 * z.levels as usize);
+    let is_read = reading::read_exactly(data, case, bounds + 2 * z.levels as usize)?;
     let settings = check_settings(s, z, reading::rest(case, bounds));
     let called = check_calls(s, z, case);
-    either(cut_unless(is_read), either(settings, called))
+    Ok(either(cut_unless(is_read), either(settings, called)))
 }

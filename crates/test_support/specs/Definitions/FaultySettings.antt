@@ -1,7 +1,7 @@
 -- Lawful settings with faults put in, each in four variants: 0, 1, 2, and any other. Assumes nothing.
-use Rattle.std.specs.Prelude.{Bool, true, false, not, cond, ◌&&◌, List, [], ◌∷◌, ℕ, ◌+◌, ◌-◌, ◌%◌, min, leb, eqb, get_or, set, replicate}
+use Rattle.std.specs.Prelude.{Bool, not, cond, ◌&&◌, List, [], ◌∷◌, ℕ, ◌+◌, ◌-◌, ◌%◌, min, leb, eqb, get_or, set, replicate}
 use Rattle.pyramid.specs.declared.Settings.{Settings}
-use Rattle.test_support.specs.Definitions.FaultSets.{chosen, member}
+use Rattle.test_support.specs.Definitions.FaultSets.{member}
 
 -- one more, within 16 bits
 abbrev pub more : ℕ → ℕ

@@ -1,5 +1,5 @@
 -- The count of cases and mismatches. Assumes nothing.
-use Rattle.std.specs.Prelude.{Bool, cond, ℕ, ◌+◌, min, eqb, ltb}
+use Rattle.std.specs.Prelude.{cond, ℕ, ◌+◌, min, eqb, ltb}
 use Rattle.test_support.specs.declared.reporting.Finding.{Finding}
 use Rattle.test_support.specs.declared.reporting.Tally.{Tally}
 
