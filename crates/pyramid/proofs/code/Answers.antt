@@ -54,6 +54,8 @@ pub index_levels-requires : goal.index_levels-requires
 index_levels-requires c =
     let a = c.before.before.before in record { lawful = (entry a).requires.law; holds = rw (averaged_is a) (averages_hold (entry a).requires (bytes (load a))) }
 
-pub returns : goal.returns
-returns c =
-    let a = c.before.before.before.before.before in record { levels_after = (rw (averaged_is a) at c.index_levels.ensures) ∙ indices_placed (entry a).requires (bytes (load a)); work_after = averaged_is a }
+pub returns-clause-levels_after : goal.returns-clause-levels_after
+returns-clause-levels_after c = let a = c.before.before.before.before.before in (rw (averaged_is a) at c.index_levels.ensures) ∙ indices_placed (entry a).requires (bytes (load a))
+
+pub returns-clause-work_after : goal.returns-clause-work_after
+returns-clause-work_after c = averaged_is c.before.before.before.before.before
