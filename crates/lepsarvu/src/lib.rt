@@ -25,8 +25,7 @@ fn settings(columns: u16, rows: u16, depth: u16, kernel: u16, bins: [u16; 7]) ->
     }
 }
 
-#[unsafe(no_mangle)]
-pub extern "C" fn lepsarvu_coding(
+pub fn lepsarvu_coding(
     columns: u16,
     rows: u16,
     depth: u16,
@@ -51,8 +50,7 @@ pub extern "C" fn lepsarvu_coding(
     pyramid::coding(s, picture, levels, work)
 }
 
-#[unsafe(no_mangle)]
-pub extern "C" fn lepsarvu_rebuilding(
+pub fn lepsarvu_rebuilding(
     columns: u16,
     rows: u16,
     depth: u16,
@@ -77,8 +75,7 @@ pub extern "C" fn lepsarvu_rebuilding(
     pyramid::rebuilding(s, levels, picture, work)
 }
 
-#[unsafe(no_mangle)]
-pub extern "C" fn lepsarvu_level_bounds(
+pub fn lepsarvu_level_bounds(
     columns: u16,
     rows: u16,
     depth: u16,
@@ -100,8 +97,7 @@ pub extern "C" fn lepsarvu_level_bounds(
     answer.refusal
 }
 
-#[unsafe(no_mangle)]
-pub extern "C" fn lepsarvu_deepest_depth(columns: u16, rows: u16, depth: &mut u16) -> u16
+pub fn lepsarvu_deepest_depth(columns: u16, rows: u16, depth: &mut u16) -> u16
     ensures value { result ≡ (deepest_answer columns rows).refusal }
     ensures depth_after { depth.new ≡ leaves result (deepest_answer columns rows).depth depth.old }
 {
@@ -112,8 +108,7 @@ pub extern "C" fn lepsarvu_deepest_depth(columns: u16, rows: u16, depth: &mut u1
     answer.refusal
 }
 
-#[unsafe(no_mangle)]
-pub extern "C" fn lepsarvu_total_nodes(
+pub fn lepsarvu_total_nodes(
     columns: u16,
     rows: u16,
     depth: u16,
@@ -145,8 +140,7 @@ fn give_size(answer: FileSize, size: &mut usize) -> u16
     answer.refusal
 }
 
-#[unsafe(no_mangle)]
-pub extern "C" fn lepsarvu_file_size(
+pub fn lepsarvu_file_size(
     columns: u16,
     rows: u16,
     depth: u16,
@@ -178,8 +172,7 @@ fn note_refusal(s: Settings, drier: Probe, press: Probe) -> u16
     press.refusal
 }
 
-#[unsafe(no_mangle)]
-pub extern "C" fn lepsarvu_write_file(
+pub fn lepsarvu_write_file(
     columns: u16,
     rows: u16,
     depth: u16,
@@ -255,8 +248,7 @@ fn give(
     answer.refusal
 }
 
-#[unsafe(no_mangle)]
-pub extern "C" fn lepsarvu_read_file(
+pub fn lepsarvu_read_file(
     file: &[u8],
     levels: &mut [i16],
     shape: &mut [u16; 4],
@@ -283,8 +275,7 @@ pub extern "C" fn lepsarvu_read_file(
     give(answer, shape, bins, kinds, numbers)
 }
 
-#[unsafe(no_mangle)]
-pub extern "C" fn lepsarvu_check_file(
+pub fn lepsarvu_check_file(
     file: &[u8],
     shape: &mut [u16; 4],
     bins: &mut [u16; 7],

@@ -16,8 +16,7 @@ fn give_pgm_size(answer: PgmSize, size: &mut usize) -> u16
     answer.refusal
 }
 
-#[unsafe(no_mangle)]
-pub extern "C" fn lepsarvu_pgm_size(columns: u16, rows: u16, size: &mut usize) -> u16
+pub fn lepsarvu_pgm_size(columns: u16, rows: u16, size: &mut usize) -> u16
     ensures value { result ≡ (size_answer columns rows).refusal }
     ensures size_after { size.new ≡ leaves result (size_answer columns rows).size size.old }
 {
@@ -25,8 +24,7 @@ pub extern "C" fn lepsarvu_pgm_size(columns: u16, rows: u16, size: &mut usize) -
     give_pgm_size(answer, size)
 }
 
-#[unsafe(no_mangle)]
-pub extern "C" fn lepsarvu_write_pgm(
+pub fn lepsarvu_write_pgm(
     columns: u16,
     rows: u16,
     picture: &[u8],
@@ -58,13 +56,7 @@ fn give_picture_size(answer: PictureSize, columns: &mut u16, rows: &mut u16) -> 
     answer.refusal
 }
 
-#[unsafe(no_mangle)]
-pub extern "C" fn lepsarvu_read_pgm(
-    file: &[u8],
-    picture: &mut [u8],
-    columns: &mut u16,
-    rows: &mut u16,
-) -> u16
+pub fn lepsarvu_read_pgm(file: &[u8], picture: &mut [u8], columns: &mut u16, rows: &mut u16) -> u16
     ensures value { result ≡ (read_pgm file.now picture.old).answer.refusal }
     ensures picture_after { picture.new ≡ (read_pgm file.now picture.old).picture }
     ensures columns_after { columns.new ≡
@@ -77,8 +69,7 @@ pub extern "C" fn lepsarvu_read_pgm(
     give_picture_size(answer, columns, rows)
 }
 
-#[unsafe(no_mangle)]
-pub extern "C" fn lepsarvu_check_pgm(file: &[u8], columns: &mut u16, rows: &mut u16) -> u16
+pub fn lepsarvu_check_pgm(file: &[u8], columns: &mut u16, rows: &mut u16) -> u16
     ensures value { result ≡ (check_pgm file.now).refusal }
     ensures columns_after { columns.new ≡
         leaves result (check_pgm file.now).columns columns.old }
