@@ -1,0 +1,11 @@
+-- The digits that were put are inside the buffer.
+use native.Mathlib.Omega.{arith}
+use Prim.Native.Nat.{◌≤◌}
+use Rattle.decimals.proofs.Counting.{put_inside}
+use Rattle.lintlist.proofs.listing.number.Goals as goal
+
+pub slice_bounds-digits-end : goal.slice_bounds-digits-end
+slice_bounds-digits-end g c =
+    let p = c.put_decimal-count in
+    let inside : p.result ≤ 10 = put_inside _ _ _ (p.ensures.value, p.ensures.buffer_after) in
+    omega arith
