@@ -17,7 +17,7 @@ import sys
 ROOT = pathlib.Path(__file__).resolve().parent.parent
 BELIEVED = ('Definitions', 'Theorems')
 STATED = ('Theorems', 'Checks')
-USE = re.compile(r'(?m)^\s*(?:ghost )?use (Rattle·(\w+)(?:·specs)?\.((?:specs|proofs)(?:\.[\w-]+)*))(?:\.\{([^}]*)\})?')
+USE = re.compile(r'(?m)^\s*(?:ghost |pub )?use Rattle\.(\w+)\.((?:specs|proofs)(?:\.[\w-]+)*)(?:\.\{([^}]*)\})?')
 counts = {'passed': 0, 'failed': 0}
 
 
@@ -34,7 +34,7 @@ def text_of(path):
 def product():
     """The crates of the product: those of crates.txt that are no tests."""
     lines = text_of(ROOT / 'crates.txt').split('\n')
-    names = [line.split(':')[0] for line in lines if line.strip() and not line.startswith('#')]
+    names = [re.split('[: ]', line)[0] for line in lines if line.strip() and not line.startswith('#')]
     return [name for name in names if not name.startswith('test_')]
 
 
@@ -49,12 +49,12 @@ def room(path):
 
 
 def imports(text):
-    """What a file uses of crates' specs/ and proofs/: the crate, the module's path in it, and the names."""
+    """What a file uses of specs/ and proofs/ of this repository's crates: the crate, the module's path in it, and the names."""
     for found in USE.finditer(text):
-        crate, parts = found.group(2), found.group(3).split('.')
-        parts = parts[1:] if parts[:2] == ['specs', 'specs'] else parts
-        names = [name.strip() for name in (found.group(4) or '').split(',')]
-        yield crate, parts, names
+        crate, parts = found.group(1), found.group(2).split('.')
+        names = [name.split(' as ')[-1].strip() for name in (found.group(3) or '').split(',')]
+        if (ROOT / 'crates' / crate).exists():
+            yield crate, parts, names
 
 
 def file_of(crate, parts):

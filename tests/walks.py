@@ -23,9 +23,10 @@ def check(holds, what):
 
 def words_of_crates():
     found = set()
-    for path in CRATES.rglob('*'):
-        if path.suffix in ('.antt', '.rt') and path.is_file():
-            found.update(re.findall(r"[\w′₀-₉-]+", path.read_text(encoding='utf-8')))
+    for path in CRATES.glob('*/*/**/*'):
+        written = path.relative_to(CRATES).parts[1] in ('src', 'specs', 'proofs')
+        if written and path.suffix in ('.antt', '.rt') and path.is_file():
+            found.update(re.findall(r"[\w'₀-₉-]+", path.read_text(encoding='utf-8')))
     return found
 
 
@@ -60,7 +61,7 @@ def follow(heading, cell, row, words):
     if heading.startswith(('Can fail', 'Wrong bodies', 'Edit')):
         for edit in re.findall(r'(?<![\w`])[a-z0-9]+(?:_[a-z0-9]+)+(?![\w`])', cell.split('tried')[0]):
             check(edit in EDITS, '%s: no edit %s' % (row, edit))
-    for name in re.findall(r'`([A-Za-z_][\w′:-]*)`', cell):
+    for name in re.findall(r"`([A-Za-z_][\w':-]*)`", cell):
         check(name.split('::')[-1] in words, '%s: no %s in crates/' % (row, name))
 
 
