@@ -1,6 +1,6 @@
 // PGM files that are read. What their headers mean is document 02's (P2).
 use crate::lent::BEFORE;
-use crate::pgm;
+use crate::pgm_writing;
 use lepsarvu::pictures;
 use test_support::comparing::least;
 use test_support::fillers;
@@ -26,7 +26,7 @@ fn read(
         t,
         answer == refusal && columns == sides[0] && rows == sides[1],
     );
-    checked(u, pgm::is_left(&picture, pixels))
+    checked(u, pgm_writing::is_left(&picture, pixels))
 }
 
 // The reader that is lent no picture, then the other.

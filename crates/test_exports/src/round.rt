@@ -1,6 +1,6 @@
 // From a PGM file through a bale file to a PGM file: 3 columns and 2 rows, N = 0, k = 5, bin 1, at which every pixel is shown as it was.
 use crate::lent::BEFORE;
-use crate::{handed, pgm};
+use crate::{handed, pgm_writing};
 use lepsarvu::pictures;
 use test_support::reporting::{Tally, checked, empty};
 
@@ -46,7 +46,7 @@ fn shown(t: Tally, file: &[u8; 40]) -> Tally {
         &mut work,
     );
     let u = checked(checked(t, got.answer == 0), answer == 0);
-    pgm::written(u, shape[0], shape[1], &picture, 40, 0, single)
+    pgm_writing::written(u, shape[0], shape[1], &picture, 40, 0, single)
 }
 
 // The file is not in the single form; the last one is.

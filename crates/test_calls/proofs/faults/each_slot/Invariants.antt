@@ -2,8 +2,5 @@
 use Prim.Native.Nat.{◌-◌}
 use Rattle.test_calls.proofs.faults.each_slot.Given as goal
 
-abbrev pub invariant-loop-setting : goal.invariant-loop-setting
-invariant-loop-setting v = Unit {0}
-
 abbrev pub decreases-loop-setting : goal.decreases-loop-setting
 decreases-loop-setting v = 11 - v.setting

@@ -1,8 +1,5 @@
 -- `test_vectors::cases::check_all` is safe and ends. Assumes nothing.
 use Rattle.test_vectors.proofs.cases.check_all.Given as goal
 
-abbrev pub invariant-loop-left : goal.invariant-loop-left
-invariant-loop-left g v = Unit {0}
-
 abbrev pub decreases-loop-left : goal.decreases-loop-left
 decreases-loop-left g v = v.left
