@@ -4,3 +4,4 @@ mod Filled
 mod Choosing
 mod Variants
 mod FaultySettings
+mod Taking

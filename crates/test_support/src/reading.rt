@@ -1,5 +1,6 @@
 // Reads the cases of a program's data.
-ghost use Rattle.std.specs.Prelude.{◌≡◌, true, ◌*◌, ◌/◌, ◌≤◌, ◌<◌, min, length, drop, IfOk};
+ghost use Rattle.std.specs.Prelude.{◌≡◌, true, false, ◌*◌, ◌/◌, ◌≤◌, ◌<◌, min, length, take, drop, IfOk};
+ghost use Rattle.std.specs.Io.KnownBytes.{Consumes, IsAtEnd};
 ghost use Rattle.mathematics.specs.Definitions.Tables.{tabulate};
 ghost use Rattle.mathematics.specs.Inner.Splices.{splice};
 ghost use Rattle.test_support.specs.Definitions.Numbers.{signed16};
@@ -9,12 +10,14 @@ use std::io;
 use std::io::Read;
 
 // Reads until a buffer is full or the data ends, and answers how many bytes were read, to the buffer's start.
-fn read_full<R: Read>(data: &mut R, bytes: &mut [u8]) -> io::Result<usize>
+fn read_full<R: Read>(source: &mut R, bytes: &mut [u8]) -> io::Result<usize>
     ensures bound { IfOk result (λ n. n ≤ length bytes.new) }
+    ensures taken { IfOk result (λ n. Consumes (R.remaining source.old) (R.remaining source.new) (take n bytes.new)) }
+    ensures end { IfOk result (λ n. n < length bytes.new → IsAtEnd (R.remaining source.new)) }
 {
     let mut n = 0;
     while n < bytes.len() {
-        let more = data.read(&mut bytes[n..])?;
+        let more = source.read(&mut bytes[n..])?;
         if more == 0 {
             return Ok(n);
         }
@@ -24,23 +27,27 @@ fn read_full<R: Read>(data: &mut R, bytes: &mut [u8]) -> io::Result<usize>
 }
 
 // Reads n bytes to the start of a buffer; false where the data ends before, or the buffer, which then is not changed.
-pub fn read_exactly<R: Read>(data: &mut R, bytes: &mut [u8], n: usize) -> io::Result<bool>
+pub fn read_exactly<R: Read>(source: &mut R, bytes: &mut [u8], n: usize) -> io::Result<bool>
     ensures length { length bytes.new ≡ length bytes.old }
     ensures room { IfOk result (λ is_read. is_read ≡ true → n ≤ length bytes.old) }
     ensures kept { length bytes.old < n → bytes.new ≡ bytes.old }
+    ensures taken { IfOk result (λ is_read. is_read ≡ true → Consumes (R.remaining source.old) (R.remaining source.new) (take n bytes.new)) }
+    ensures end { IfOk result (λ is_read. is_read ≡ false → n ≤ length bytes.old → IsAtEnd (R.remaining source.new)) }
 {
     if bytes.len() < n {
         return Ok(false);
     }
-    Ok(read_full(data, &mut bytes[0..n])? == n)
+    Ok(read_full(source, &mut bytes[0..n])? == n)
 }
 
 // Fills a buffer with the start of the next case. The answer is AGREES, or DATA_ENDS where no case is left, or CASE_CUT.
-pub fn read_head<R: Read>(data: &mut R, head: &mut [u8]) -> io::Result<u16>
+pub fn read_head<R: Read>(source: &mut R, head: &mut [u8]) -> io::Result<u16>
     ensures length { length head.new ≡ length head.old }
     ensures bound { IfOk result (λ part. part ≤ 2) }
+    ensures taken { IfOk result (λ part. part ≡ 0 → Consumes (R.remaining source.old) (R.remaining source.new) head.new) }
+    ensures end { IfOk result (λ part. 0 < part → IsAtEnd (R.remaining source.new)) }
 {
-    let got = read_full(data, head)?;
+    let got = read_full(source, head)?;
     if got == head.len() {
         return Ok(reporting::AGREES);
     }
