@@ -2,7 +2,7 @@
 """Brings the names of this repository's definitions, lemmas and fields to today's spelling: words in snake case; a dash only between the
 names of two definitions, as in `length-tabulate`; a plain word is added by `_`.
 
-usage: python3 tools/respell.py      at the top of the repository, once, after /opt/rattle/port/port.py and before any edit by hand
+usage: python3 tools/respell.py      at the top of the repository, once, after port.py of the toolchain and before any edit by hand
 
 It goes by whole words in .antt files, in the contracts and comments of .rt files, in must-fail edits and in the pages of docs/ and README.md
 (in pages and comments only between backticks). Functions of src/, exported names and what programs read and write keep their names: none of
