@@ -1,3 +1,4 @@
+-- What falls with each call of `decimals::put_digits`.
 use Rattle.decimals.proofs.+put_digits.Given as goal
 
 abbrev pub decreases-put_digits : goal.decreases-put_digits

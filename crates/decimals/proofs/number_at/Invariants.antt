@@ -1,4 +1,4 @@
--- `decimals::number_at` meets its contract: each turn of its loop takes one digit. Assumes nothing.
+-- What the loop of `decimals::number_at` keeps, and what falls with each turn.
 use Prim.Native.Nat.{◌-◌}
 use Rattle.decimals.proofs.Reading.{Reading}
 use Rattle.decimals.proofs.number_at.Given as goal

@@ -11,8 +11,22 @@ returns-then-answer-eq0 c =
     let press = read.reading_code-press.ensures in
     let then = read.before.before.before.before in
     let note = then.args.answer.note in
-    let none = then.if-answer-eq0.true in record { value = refl; shape_after = sym (leaves_new _ _ _ none); bins_after = sym (leaves_new _ _ _ none); kinds_after = kinds_are note drier press ∙ sym (leaves_new _ _ _ none); numbers_after = numbers_are note drier press ∙ sym (leaves_new _ _ _ none) }
+    let none = then.if-answer-eq0.true in
+    record {
+      value = refl;
+      shape_after = sym (leaves_new _ _ _ none);
+      bins_after = sym (leaves_new _ _ _ none);
+      kinds_after = kinds_are note drier press ∙ sym (leaves_new _ _ _ none);
+      numbers_after = numbers_are note drier press ∙ sym (leaves_new _ _ _ none);
+    }
 
 pub returns-else-answer-eq0 : goal.returns-else-answer-eq0
 returns-else-answer-eq0 c =
-    let kept = c.if-answer-eq0.false in record { value = refl; shape_after = sym (leaves_kept _ _ _ kept); bins_after = sym (leaves_kept _ _ _ kept); kinds_after = sym (leaves_kept _ _ _ kept); numbers_after = sym (leaves_kept _ _ _ kept) }
+    let kept = c.if-answer-eq0.false in
+    record {
+      value = refl;
+      shape_after = sym (leaves_kept _ _ _ kept);
+      bins_after = sym (leaves_kept _ _ _ kept);
+      kinds_after = sym (leaves_kept _ _ _ kept);
+      numbers_after = sym (leaves_kept _ _ _ kept);
+    }

@@ -12,7 +12,11 @@ returns-then-refusal-ne0 c =
 
 pub accepted-requires : goal.accepted-requires
 accepted-requires c =
-    let k = c.before in record { header_value = k.header-header.ensures; file_value = sym k.check_refusal-refusal.ensures ∙ c.if-refusal-ne0.false }
+    let k = c.before in
+    record {
+      header_value = k.header-header.ensures;
+      file_value = sym k.check_refusal-refusal.ensures ∙ c.if-refusal-ne0.false;
+    }
 
 pub returns : goal.returns
 returns c =

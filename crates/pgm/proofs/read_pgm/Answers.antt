@@ -33,7 +33,11 @@ returns-then-refusal-ne0 c =
     let k = c.before.before in
     let h = k.before in
     let a = h.args in
-    let r = read_refused a.file.now h.header-header.ensures a.picture.now k.read_refusal-refusal.ensures c.if-refusal-ne0.true in record { value = c.refused.ensures ∙ r.0; picture_after = r.1 }
+    let r = read_refused a.file.now h.header-header.ensures a.picture.now k.read_refusal-refusal.ensures c.if-refusal-ne0.true in
+    record {
+      value = c.refused.ensures ∙ r.0;
+      picture_after = r.1;
+    }
 
 pub slice_bounds-copy-count : goal.slice_bounds-copy-count
 slice_bounds-copy-count c = omega (arith, long c.before)
@@ -48,16 +52,28 @@ copy-requires c =
     let a = h.args in
     let all = long e in
     let most = pixels_most a.file.now h.header-header.ensures a.picture.now (none e) in
-    let n = length_part h.header-header.result.pixels (length a.file.now) a.file.now (omega arith) (omega arith) in record { from_len_bound = omega arith; from_in_bounds = omega arith }
+    let n = length_part h.header-header.result.pixels (length a.file.now) a.file.now (omega arith) (omega arith) in
+    record {
+      from_len_bound = omega arith;
+      from_in_bounds = omega arith;
+    }
 
 pub accepted-requires : goal.accepted-requires
 accepted-requires c =
     let e = c.before.before.before.before.before.before in
     let h = e.before.before in
-    let a = h.args in record { header_value = h.header-header.ensures; file_value = read_checked a.file.now h.header-header.ensures a.picture.now (none e) }
+    let a = h.args in
+    record {
+      header_value = h.header-header.ensures;
+      file_value = read_checked a.file.now h.header-header.ensures a.picture.now (none e);
+    }
 
 pub returns : goal.returns
 returns c =
     let e = c.before.before.before.before.before.before.before in
     let h = e.before.before in
-    let a = h.args in record { value = read_answer a.file.now h.header-header.ensures a.picture.now (none e) c.accepted.ensures; picture_after = pixels-copied a.file.now h.header-header.ensures a.picture.now (none e) c.copy.ensures }
+    let a = h.args in
+    record {
+      value = read_answer a.file.now h.header-header.ensures a.picture.now (none e) c.accepted.ensures;
+      picture_after = pixels-copied a.file.now h.header-header.ensures a.picture.now (none e) c.copy.ensures;
+    }

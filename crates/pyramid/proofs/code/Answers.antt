@@ -38,7 +38,12 @@ module _ (c : After-load) where
 pub average_levels-requires : goal.average_levels-requires
 average_levels-requires c =
     let l = c.before.before.before in
-    let t = given l in record { lawful = t.requires.law; s_in_bounds = omega (arith, l.load.auto.work, t.requires.sized.work_least); coding_ranges = rw (loaded_is l) (loaded_ranges t.requires (bytes l)) }
+    let t = given l in
+    record {
+      lawful = t.requires.law;
+      s_in_bounds = omega (arith, l.load.auto.work, t.requires.sized.work_least);
+      coding_ranges = rw (loaded_is l) (loaded_ranges t.requires (bytes l));
+    }
 
 module _ (c : After-average_levels) where
   abbrev load : After-load
@@ -52,7 +57,11 @@ module _ (c : After-average_levels) where
 
 pub index_levels-requires : goal.index_levels-requires
 index_levels-requires c =
-    let a = c.before.before.before in record { lawful = (entry a).requires.law; holds = rw (averaged_is a) (averages_hold (entry a).requires (bytes (load a))) }
+    let a = c.before.before.before in
+    record {
+      lawful = (entry a).requires.law;
+      holds = rw (averaged_is a) (averages_hold (entry a).requires (bytes (load a)));
+    }
 
 pub returns-clause-levels_after : goal.returns-clause-levels_after
 returns-clause-levels_after c = let a = c.before.before.before.before.before in (rw (averaged_is a) at c.index_levels.ensures) ∙ indices_placed (entry a).requires (bytes (load a))

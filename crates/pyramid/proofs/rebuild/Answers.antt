@@ -41,7 +41,12 @@ module _ (c : After-value_levels) where
 pub value_levels-requires : goal.value_levels-requires
 value_levels-requires c =
     let t = c.before.before in
-    let a = t.requires.accepted in record { lawful = a.law; levels_len = (a.sized.levels_is, a.sized.work_least); rebuilding_ranges = rebuilding_ranges t.args.s a.law t.args.levels.now t.requires.t }
+    let a = t.requires.accepted in
+    record {
+      lawful = a.law;
+      levels_len = (a.sized.levels_is, a.sized.work_least);
+      rebuilding_ranges = rebuilding_ranges t.args.s a.law t.args.levels.now t.requires.t;
+    }
 
 before-total : (c : After-total-to) → c.start_of-from.result ≤ c.total-to.result
 before-total c =

@@ -16,7 +16,11 @@ pub multiply-requires : goal.multiply-requires
 multiply-requires c =
     let i = c.before.before.before in
     let x = held i.before.before.args.value in
-    let a = abs_between 8192 (negsuc 8191) x (pos 8192) (le_ℤ_true c.before.if-value-geminus8192.true) (le_ℤ_true c.if-value-le8192.true) (omega arith) (omega arith) in record { h_lt_d = (omega arith, a); reciprocal_factor = i.is_reciprocal.ensures.0 c.before.before.if-is_reciprocal.true }
+    let a = abs_between 8192 (negsuc 8191) x (pos 8192) (le_ℤ_true c.before.if-value-geminus8192.true) (le_ℤ_true c.if-value-le8192.true) (omega arith) (omega arith) in
+    record {
+      h_lt_d = (omega arith, a);
+      reciprocal_factor = i.is_reciprocal.ensures.0 c.before.before.if-is_reciprocal.true;
+    }
 
 pub returns-then-value-le8192 : goal.returns-then-value-le8192
 returns-then-value-le8192 c =

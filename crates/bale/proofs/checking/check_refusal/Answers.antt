@@ -12,7 +12,11 @@ returns-then-refusal-ne0 c = answers_stop _ c.shape_section_refusal-refusal.ensu
 pub body_refusal-requires : goal.body_refusal-requires
 body_refusal-requires c =
     let shape = c.before in
-    let e = shape.requires in record { s_value = e; shaped = shaped_in _ _ e (sym shape.shape_section_refusal-refusal.ensures ∙ c.if-refusal-ne0.false) }
+    let e = shape.requires in
+    record {
+      s_value = e;
+      shaped = shaped_in _ _ e (sym shape.shape_section_refusal-refusal.ensures ∙ c.if-refusal-ne0.false);
+    }
 
 pub returns : goal.returns
 unfolding check_refusal

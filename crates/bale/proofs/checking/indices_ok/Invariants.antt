@@ -1,4 +1,4 @@
--- `bale::checking::indices_ok` meets its contract: each turn of its loop widens the range by one index. Assumes nothing.
+-- What the loop of `bale::checking::indices_ok` keeps, and what falls with each turn.
 use Prim.Native.Nat.{◌-◌}
 use Rattle.pyramid.proofs.IndexRanges.{Ranged}
 use Rattle.bale.specs.Definitions.Words.{indices_at}

@@ -20,7 +20,11 @@ pub body_refusal-requires : goal.body_refusal-requires
 body_refusal-requires c =
     let shaped = c.before.before.before in
     let shape = shaped.before in
-    let e = shape.requires in record { s_value = e; shaped = shaped_in _ _ e (sym shape.shape_section_refusal-refusal.ensures ∙ shaped.if-refusal-ne0.false) }
+    let e = shape.requires in
+    record {
+      s_value = e;
+      shaped = shaped_in _ _ e (sym shape.shape_section_refusal-refusal.ensures ∙ shaped.if-refusal-ne0.false);
+    }
 
 pub returns : goal.returns
 returns c =

@@ -1,4 +1,4 @@
--- `bale::filling::fill_indices` meets its contract: each turn of its loop stores one index. Assumes nothing.
+-- What the loop of `bale::filling::fill_indices` keeps, and what falls with each turn.
 use Prim.Native.Nat.{◌+◌, ◌-◌, ◌*◌}
 use Rattle.mathematics.proofs.Filling.{Filling}
 use Rattle.bale.specs.Definitions.Words.{u16_at, word_index}

@@ -1,3 +1,4 @@
+-- What falls with each call of `bale::putting::put_bins_from`.
 use Rattle.bale.proofs.putting.+put_bins_from.Given as goal
 
 abbrev pub decreases-put_bins_from : goal.decreases-put_bins_from

@@ -18,13 +18,21 @@ put_bins-requires c =
 pub put_readings-requires : goal.put_readings-requires
 unfolding file_length
 put_readings-requires c =
-    let w = accepted_writing _ _ _ _ c.requires in record { t = w.noted; at_in_bounds = omega (arith, c.readings.ensures, w.fits) }
+    let w = accepted_writing _ _ _ _ c.requires in
+    record {
+      t = w.noted;
+      at_in_bounds = omega (arith, c.readings.ensures, w.fits);
+    }
 
 pub put_levels-requires : goal.put_levels-requires
 unfolding file_length
 put_levels-requires c =
     let d = c.before.before.before.before.before.before.before.before.before.before.before.before.before.before.before.before in
-    let w = accepted_writing _ _ _ _ d.requires in record { shaped = w.law.shaped; level_le_depth = omega (arith, c.levels.ensures, w.fits, w.long, total-is d.args.s) }
+    let w = accepted_writing _ _ _ _ d.requires in
+    record {
+      shaped = w.law.shaped;
+      level_le_depth = omega (arith, c.levels.ensures, w.fits, w.long, total-is d.args.s);
+    }
 
 pub returns : goal.returns
 returns c =

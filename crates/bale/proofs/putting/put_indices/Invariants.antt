@@ -1,4 +1,4 @@
--- `bale::putting::put_indices` meets its contract: each turn of its loop puts one word. Assumes nothing.
+-- What the loop of `bale::putting::put_indices` keeps, and what falls with each turn.
 use Prim.Native.Nat.{◌-◌}
 use lib.ListN.{length}
 use Rattle.bale.proofs.Pieces.{IndexWords}

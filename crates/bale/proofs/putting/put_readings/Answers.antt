@@ -10,13 +10,21 @@ pub put_reading-requires : goal.put_reading-requires
 unfolding note_ok
 put_reading-requires c =
     let d = c.before.before.before.before.before.before in
-    let n = d.args.note in record { t = (both (reading_ok n.before_drier) (reading_ok n.at_press) d.requires.t).0; at_in_bounds = search rules }
+    let n = d.args.note in
+    record {
+      t = (both (reading_ok n.before_drier) (reading_ok n.at_press) d.requires.t).0;
+      at_in_bounds = search rules;
+    }
 
 pub put_reading-requires-2 : goal.put_reading-requires-2
 unfolding note_ok
 put_reading-requires-2 c =
     let d = c.before.before.before.before.before.before.before.before.before.before in
-    let n = d.args.note in record { t = (both (reading_ok n.before_drier) (reading_ok n.at_press) d.requires.t).1; at_in_bounds = search rules }
+    let n = d.args.note in
+    record {
+      t = (both (reading_ok n.before_drier) (reading_ok n.at_press) d.requires.t).1;
+      at_in_bounds = search rules;
+    }
 
 pub returns : goal.returns
 returns c =

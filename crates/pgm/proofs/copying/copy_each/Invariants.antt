@@ -1,4 +1,4 @@
--- `pgm::copying::copy_each` meets its contract: each turn of its loop stores one byte. Assumes nothing.
+-- What the loop of `pgm::copying::copy_each` keeps, and what falls with each turn.
 use Prim.Native.Nat.{◌-◌}
 use lib.ListN.{length, get_or}
 use Rattle.mathematics.proofs.Filling.{Filling}

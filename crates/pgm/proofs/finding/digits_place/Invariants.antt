@@ -1,4 +1,4 @@
--- `pgm::finding::digits_place` meets its contract: each turn of its loop passes one byte. Assumes nothing.
+-- What the loop of `pgm::finding::digits_place` keeps, and what falls with each turn.
 use Prim.Native.Nat.{◌-◌}
 use lib.ListN.{length}
 use Rattle.pgm.proofs.Passing.{Passing}

@@ -28,4 +28,8 @@ overflow_add-result c = search (rules, end c)
 pub returns : goal.returns
 returns c =
     let p = c.before.before in
-    let a = p.args in record { value = (put_then a.n a.at a.file.now (omega arith) (p.put_decimal.ensures.value, p.put_decimal.ensures.buffer_after) a.space).0; file_after = (put_then a.n a.at a.file.now (omega arith) (p.put_decimal.ensures.value, p.put_decimal.ensures.buffer_after) a.space).1 }
+    let a = p.args in
+    record {
+      value = (put_then a.n a.at a.file.now (omega arith) (p.put_decimal.ensures.value, p.put_decimal.ensures.buffer_after) a.space).0;
+      file_after = (put_then a.n a.at a.file.now (omega arith) (p.put_decimal.ensures.value, p.put_decimal.ensures.buffer_after) a.space).1;
+    }

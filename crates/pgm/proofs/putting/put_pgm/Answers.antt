@@ -18,7 +18,11 @@ copy-requires c =
     let a = d.args in
     let w = accepted_writing a.columns a.rows _ _ d.requires in
     let long = pgm_pieces a.columns a.rows in
-    let size = sized a.columns a.rows w.sized in record { from_len_bound = omega (arith, w.long, size.most); from_in_bounds = omega (arith, w.long, w.fits, h.put_header-pixels.ensures.value) }
+    let size = sized a.columns a.rows w.sized in
+    record {
+      from_len_bound = omega (arith, w.long, size.most);
+      from_in_bounds = omega (arith, w.long, w.fits, h.put_header-pixels.ensures.value);
+    }
 
 pub returns : goal.returns
 returns c =

@@ -21,7 +21,11 @@ pub five-requires : goal.five-requires
 five-requires c =
     let s = c.before.before.before.before.before.before.before.before.before.before.before.before.before.before.before in
     let w = c.before.before.before.before.before.before.before.before.before.before.before.before in
-    let value : (p : ℕ) → Within 8388608 (held (get_or s.args.src.now p (pos 0))) = λ p. within_more (omega arith) (within_held tt (s.requires.source.small p)) in record { within = (within_held tt w.weight_at-w0.ensures.1, within_held tt w.weight_at-w1.ensures.1, within_held tt w.weight_at-w2.ensures.1); within_2 = (value _, value _, value _, value _, value _) }
+    let value : (p : ℕ) → Within 8388608 (held (get_or s.args.src.now p (pos 0))) = λ p. within_more (omega arith) (within_held tt (s.requires.source.small p)) in
+    record {
+      within = (within_held tt w.weight_at-w0.ensures.1, within_held tt w.weight_at-w1.ensures.1, within_held tt w.weight_at-w2.ensures.1);
+      within_2 = (value _, value _, value _, value _, value _);
+    }
 
 pub loop-x-preserved : goal.loop-x-preserved
 loop-x-preserved c =

@@ -1,4 +1,4 @@
--- `pyramid::averaging::column_sums` meets its contract, column by column. Assumes nothing.
+-- What the loop of `pyramid::averaging::column_sums` keeps, and what falls with each turn.
 use Prim.Native.Nat.{◌+◌, ◌-◌, ◌*◌}
 use Rattle.mathematics.proofs.Filling.{Filling}
 use Rattle.pyramid.specs.Definitions.Weights.{weight}

@@ -100,7 +100,12 @@ pub loop-i-init : goal.loop-i-init
 loop-i-init c = filling_start _ _ _ _
 
 pub reduce_node-requires-in-loop-i : goal.reduce_node-requires-in-loop-i
-reduce_node-requires-in-loop-i c = record { a_in_bounds = (omega arith, omega arith, omega arith, omega arith, omega arith); within = (asked c.before.before.before).0; small = (asked c.before.before.before).1 }
+reduce_node-requires-in-loop-i c =
+    record {
+      a_in_bounds = (omega arith, omega arith, omega arith, omega arith, omega arith);
+      within = (asked c.before.before.before).0;
+      small = (asked c.before.before.before).1;
+    }
 
 pub bounds-work-inner : goal.bounds-work-inner
 bounds-work-inner c =
@@ -120,7 +125,12 @@ loop-i-preserved c =
     h
 
 pub reduce_node-requires-2 : goal.reduce_node-requires-2
-reduce_node-requires-2 c = record { a_in_bounds = (omega arith, omega arith, omega arith, omega arith, omega arith); within = (asked c.before.before.before).0; small = (asked c.before.before.before).1 }
+reduce_node-requires-2 c =
+    record {
+      a_in_bounds = (omega arith, omega arith, omega arith, omega arith, omega arith);
+      within = (asked c.before.before.before).0;
+      small = (asked c.before.before.before).1;
+    }
 
 pub bounds-work-inner-2 : goal.bounds-work-inner-2
 bounds-work-inner-2 c =

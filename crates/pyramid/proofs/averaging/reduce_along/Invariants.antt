@@ -1,5 +1,4 @@
--- `pyramid::averaging::reduce_along` meets its contract: the first node, the inner ones in a loop, and the last, which reflect at the edges.
--- Assumes nothing.
+-- What the loop of `pyramid::averaging::reduce_along` keeps, and what falls with each turn.
 use mathlib.Core.List.{List}
 use Prim.Native.Nat.{ℕ, ◌+◌, ◌-◌, ◌*◌}
 use lib.IntN.{ℤ, pos, ◌*ℤ◌}

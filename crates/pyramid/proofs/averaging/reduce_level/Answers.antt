@@ -117,12 +117,22 @@ loop-j-init c = record { rendered = rendering_start _ _ _ _ _; place = omega ari
 
 pub column_sums-requires : goal.column_sums-requires
 column_sums-requires c =
-    let l = c.before.before.before in record { kernel = (s l).requires.kernel; source = source l; j_bound = (omega (arith, c.loop-j-test.true), omega (arith, l.loop-j.invariant.long, (level l).wide_most)) }
+    let l = c.before.before.before in
+    record {
+      kernel = (s l).requires.kernel;
+      source = source l;
+      j_bound = (omega (arith, c.loop-j-test.true), omega (arith, l.loop-j.invariant.long, (level l).wide_most));
+    }
 
 pub reduce_along-requires : goal.reduce_along-requires
 reduce_along-requires c =
     let cs = c.before.before.before in
-    let v = level (l cs) in record { kernel = (s (l cs)).requires.kernel; le_last = (omega (arith, v.wide), omega (arith, v.wide_most), v.wide_even, omega (arith, made_long cs, v.wide, v.wide_most), fits cs); small = made_small cs }
+    let v = level (l cs) in
+    record {
+      kernel = (s (l cs)).requires.kernel;
+      le_last = (omega (arith, v.wide), omega (arith, v.wide_most), v.wide_even, omega (arith, made_long cs, v.wide, v.wide_most), fits cs);
+      small = made_small cs;
+    }
 
 pub overflow_add-row : goal.overflow_add-row
 overflow_add-row c =

@@ -1,4 +1,4 @@
--- `pyramid::averaging::reduce_level` meets its contract, row by row. Assumes nothing.
+-- What the loop of `pyramid::averaging::reduce_level` keeps, and what falls with each turn.
 use mathlib.Core.Path.{◌≡◌}
 use mathlib.Core.List.{List}
 use Prim.Native.Nat.{ℕ, ◌+◌, ◌-◌, ◌*◌, ◌/◌}

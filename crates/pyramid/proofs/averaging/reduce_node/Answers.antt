@@ -11,7 +11,11 @@ use Rattle.pyramid.proofs.averaging.reduce_node.Goals as goal
 pub five-sum-requires : goal.five-sum-requires
 five-sum-requires c =
     let s = c.before.before.before.before.before in
-    let small = s.requires.small in record { within = (within_held tt s.requires.within.0, within_held tt s.requires.within.1, within_held tt s.requires.within.2); within_2 = (within_held tt (small _), within_held tt (small _), within_held tt (small _), within_held tt (small _), within_held tt (small _)) }
+    let small = s.requires.small in
+    record {
+      within = (within_held tt s.requires.within.0, within_held tt s.requires.within.1, within_held tt s.requires.within.2);
+      within_2 = (within_held tt (small _), within_held tt (small _), within_held tt (small _), within_held tt (small _), within_held tt (small _));
+    }
 
 pub returns : goal.returns
 returns c =

@@ -1,5 +1,4 @@
--- `pyramid::bounding::bound_slots` meets its contract. The loop's invariant: b is the bound of level l, and the slots from l on are filled.
--- The measure is l. Assumes nothing.
+-- What the loop of `pyramid::bounding::bound_slots` keeps, and what falls with each turn.
 use Rattle.pyramid.proofs.BoundSlots.{Filled}
 use Rattle.pyramid.proofs.bounding.bound_slots.Given as goal
 

@@ -1,5 +1,4 @@
--- `pyramid::checking::bins_ok` meets its contract. The loop's invariant: the slots below l hold what they may. The measure is the number of
--- slots left. Assumes nothing.
+-- What the loop of `pyramid::checking::bins_ok` keeps, and what falls with each turn.
 use mathlib.Core.Path.{◌≡◌}
 use mathlib.Core.Bool.{true}
 use Prim.Native.Nat.{◌≤◌, ◌-◌}

@@ -1,4 +1,4 @@
--- `pyramid::copying::clamp_all` meets its contract: each turn of its loop clamps one value. Assumes nothing.
+-- What the loop of `pyramid::copying::clamp_all` keeps, and what falls with each turn.
 use Prim.Native.Nat.{◌-◌}
 use lib.IntN.{pos}
 use lib.ListN.{length, get_or}

@@ -1,4 +1,4 @@
--- `pyramid::copying::index_row` meets its contract: each turn of its loop stores the index of one difference. Assumes nothing.
+-- What the loop of `pyramid::copying::index_row` keeps, and what falls with each turn.
 use Prim.Native.Nat.{◌-◌}
 use lib.IntN.{pos, ◌-ℤ◌}
 use lib.ListN.{length, get_or}

@@ -1,4 +1,4 @@
--- `pyramid::copying::load` meets its contract: each turn of its loop stores one pixel. Assumes nothing.
+-- What the loop of `pyramid::copying::load` keeps, and what falls with each turn.
 use Prim.Native.Nat.{◌-◌}
 use lib.IntN.{pos}
 use lib.ListN.{length, get_or}

@@ -1,4 +1,4 @@
--- `pyramid::copying::value_row` meets its contract: each turn of its loop stores one rebuilt value. Assumes nothing.
+-- What the loop of `pyramid::copying::value_row` keeps, and what falls with each turn.
 use Prim.Native.Nat.{◌-◌}
 use lib.IntN.{pos, ◌+ℤ◌, ◌*ℤ◌}
 use lib.ListN.{length, get_or}

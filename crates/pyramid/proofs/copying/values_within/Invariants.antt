@@ -1,4 +1,4 @@
--- `pyramid::copying::values_within` meets its contract: each turn of its loop widens the range by one index. Assumes nothing.
+-- What the loop of `pyramid::copying::values_within` keeps, and what falls with each turn.
 use Prim.Native.Nat.{◌-◌}
 use lib.ListN.{length}
 use Rattle.pyramid.proofs.IndexRanges.{Ranged}

@@ -1,5 +1,4 @@
--- `pyramid::counting::nodes_to` meets its contract. The loop's invariant: levels 0 to l, none above n, have t nodes. The measure is the
--- number of levels left. Assumes nothing.
+-- What the loop of `pyramid::counting::nodes_to` keeps, and what falls with each turn.
 use mathlib.Core.Path.{◌≡◌}
 use Prim.Native.Nat.{ℕ, ◌-◌, ◌≤◌}
 use Rattle.pyramid.specs.declared.Settings.{Settings}

@@ -107,13 +107,23 @@ pub loop-a-init : goal.loop-a-init
 loop-a-init c = (filling_from (second c) (omega arith) (second c) (omega arith), omega arith)
 
 pub expand_node-requires-in-loop-a : goal.expand_node-requires-in-loop-a
-expand_node-requires-in-loop-a c = record { a_in_bounds = omega arith; within = (even_asked c.before.before.before.before).0; small = (even_asked c.before.before.before.before).1 }
+expand_node-requires-in-loop-a c =
+    record {
+      a_in_bounds = omega arith;
+      within = (even_asked c.before.before.before.before).0;
+      small = (even_asked c.before.before.before.before).1;
+    }
 
 pub bounds-row-a : goal.bounds-row-a
 bounds-row-a c = omega (arith, (so_far c.before.before).long)
 
 pub expand_node-requires-in-loop-a-2 : goal.expand_node-requires-in-loop-a-2
-expand_node-requires-in-loop-a-2 c = record { a_in_bounds = omega arith; within = (odd_asked c.before.before.before.before.before).0; small = (odd_asked c.before.before.before.before.before).1 }
+expand_node-requires-in-loop-a-2 c =
+    record {
+      a_in_bounds = omega arith;
+      within = (odd_asked c.before.before.before.before.before).0;
+      small = (odd_asked c.before.before.before.before.before).1;
+    }
 
 pub bounds-row-a-in-loop-a : goal.bounds-row-a-in-loop-a
 bounds-row-a-in-loop-a c = omega (arith, (third c.before).long)
@@ -125,7 +135,12 @@ loop-a-preserved c =
     rw e (filling_from (second l.before) (omega (arith, (start l).requires.le_last)) (fourth c) (omega arith), omega arith)
 
 pub expand_node-requires-3 : goal.expand_node-requires-3
-expand_node-requires-3 c = record { a_in_bounds = omega arith; within = (even_asked c.before.before.before.before).0; small = (even_asked c.before.before.before.before).1 }
+expand_node-requires-3 c =
+    record {
+      a_in_bounds = omega arith;
+      within = (even_asked c.before.before.before.before).0;
+      small = (even_asked c.before.before.before.before).1;
+    }
 
 pub bounds-row-last : goal.bounds-row-last
 bounds-row-last c = omega (arith, (so_far c.before.before).long)

@@ -1,4 +1,4 @@
--- `pyramid::expanding::expand_along` meets its contract: before turn a the first 2a nodes are written. Assumes nothing.
+-- What the loop of `pyramid::expanding::expand_along` keeps, and what falls with each turn.
 use Prim.Native.Nat.{◌+◌, ◌-◌, ◌*◌, ◌≤◌}
 use Rattle.mathematics.proofs.Filling.{Filling}
 use Rattle.pyramid.proofs.ExpandTaps.{node}

@@ -26,7 +26,12 @@ summed c = c.expand_sums.ensures
 pub expand_along-requires : goal.expand_along-requires
 expand_along-requires c =
     let e = c.before.before.before in
-    let s = e.before.before in record { kernel = s.requires.kernel; le_last = omega (arith, e.expand_sums.auto.sums, s.requires.source.wide_most); small = rw (summed e) (sums_small s.requires.kernel s.requires.source s.args.j) }
+    let s = e.before.before in
+    record {
+      kernel = s.requires.kernel;
+      le_last = omega (arith, e.expand_sums.auto.sums, s.requires.source.wide_most);
+      small = rw (summed e) (sums_small s.requires.kernel s.requires.source s.args.j);
+    }
 
 pub returns : goal.returns
 returns c =

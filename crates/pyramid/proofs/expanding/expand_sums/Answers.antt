@@ -55,7 +55,12 @@ pub weigh_rows-requires : goal.weigh_rows-requires
 weigh_rows-requires c =
     let w = c.before.before.before in
     let s = w.before.before.before in
-    let r = source_row s.requires.source in record { columns_in_bounds = ((r _ (above w.before)).0, (r _ (here s)).0, (r _ (below w)).0, s.requires.j_bound.1); within = (within_held tt c.weight_at.ensures.1, within_held tt c.weight_at-then-j-eq0.ensures.1); small = s.requires.source.small }
+    let r = source_row s.requires.source in
+    record {
+      columns_in_bounds = ((r _ (above w.before)).0, (r _ (here s)).0, (r _ (below w)).0, s.requires.j_bound.1);
+      within = (within_held tt c.weight_at.ensures.1, within_held tt c.weight_at-then-j-eq0.ensures.1);
+      small = s.requires.source.small;
+    }
 
 pub overflow_add-middle : goal.overflow_add-middle
 overflow_add-middle c = record { fits = omega (arith, source_row c.requires.source _ (here c.before)) }
@@ -63,7 +68,12 @@ overflow_add-middle c = record { fits = omega (arith, source_row c.requires.sour
 pub weigh_rows-requires-else-j-eq0 : goal.weigh_rows-requires-else-j-eq0
 weigh_rows-requires-else-j-eq0 c =
     let s = c.before.before.before in
-    let r = (source_row s.requires.source _ (here s)).0 in record { columns_in_bounds = (r, r, omega (arith, source_row s.requires.source _ (after c.before.before)), s.requires.j_bound.1); within = (within_held tt c.weight_at-else-j-eq0.ensures.1, record { small = omega arith }); small = s.requires.source.small }
+    let r = (source_row s.requires.source _ (here s)).0 in
+    record {
+      columns_in_bounds = (r, r, omega (arith, source_row s.requires.source _ (after c.before.before)), s.requires.j_bound.1);
+      within = (within_held tt c.weight_at-else-j-eq0.ensures.1, record { small = omega arith });
+      small = s.requires.source.small;
+    }
 
 pub returns-then-j-eq0 : goal.returns-then-j-eq0
 unfolding column_sum as_level

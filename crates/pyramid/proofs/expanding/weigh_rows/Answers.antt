@@ -19,7 +19,11 @@ loop-x-init c = filling_start _ _ _ _
 
 pub three-requires : goal.three-requires
 three-requires c =
-    let s = c.before.before.before.before.before in record { within = (within_held tt s.requires.within.0, within_held tt s.requires.within.1); within_2 = (within_held tt (value s _), within_held tt (value s _), within_held tt (value s _)) }
+    let s = c.before.before.before.before.before in
+    record {
+      within = (within_held tt s.requires.within.0, within_held tt s.requires.within.1);
+      within_2 = (within_held tt (value s _), within_held tt (value s _), within_held tt (value s _));
+    }
 
 pub loop-x-preserved : goal.loop-x-preserved
 loop-x-preserved c =

@@ -1,4 +1,4 @@
--- `pyramid::expanding::weigh_rows` meets its contract: after x turns the first x sums are written. Assumes nothing.
+-- What the loop of `pyramid::expanding::weigh_rows` keeps, and what falls with each turn.
 use Prim.Native.Nat.{◌+◌, ◌-◌}
 use lib.IntN.{pos}
 use lib.ListN.{get_or}

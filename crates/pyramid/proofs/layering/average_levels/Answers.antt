@@ -28,7 +28,12 @@ loop-l-init c law long = averaged_first c.args.s law c.args.work.now long
 pub average_level-requires : goal.average_level-requires
 average_level-requires c =
     let l = c.before.before.before in
-    let s = (t l).args.s in record { lawful = (t l).requires.lawful; l_lt_depth = (c.loop-l-test.true, omega (arith, averaged_long s (t l).requires.lawful (t l).args.work.now (t l).requires.s_in_bounds (so_far l), (t l).requires.s_in_bounds)); level_small = averaged_small s (t l).requires.lawful (t l).args.work.now (t l).requires.s_in_bounds (so_far l) (t l).requires.coding_ranges }
+    let s = (t l).args.s in
+    record {
+      lawful = (t l).requires.lawful;
+      l_lt_depth = (c.loop-l-test.true, omega (arith, averaged_long s (t l).requires.lawful (t l).args.work.now (t l).requires.s_in_bounds (so_far l), (t l).requires.s_in_bounds));
+      level_small = averaged_small s (t l).requires.lawful (t l).args.work.now (t l).requires.s_in_bounds (so_far l) (t l).requires.coding_ranges;
+    }
 
 pub loop-l-smaller : goal.loop-l-smaller
 loop-l-smaller c = omega (arith, c.loop-l-test.true)

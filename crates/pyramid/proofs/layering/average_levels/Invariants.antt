@@ -1,4 +1,4 @@
--- `pyramid::layering::average_levels` meets its contract: each turn makes the averages of one level more. Assumes nothing.
+-- What the loop of `pyramid::layering::average_levels` keeps, and what falls with each turn.
 use Prim.Native.Nat.{◌-◌, ◌≤◌}
 use lib.ListN.{length}
 use Rattle.pyramid.specs.Definitions.Sizes.{total}

@@ -96,7 +96,12 @@ slice_bounds-predict_row-end c = sym c.loop-j.invariant.roomy.long
 pub predict_row-requires : goal.predict_row-requires
 predict_row-requires c =
     let i = c.before in
-    let a = l i in record { lawful = (t a).requires.lawful; l_le_depth = ((level a).deep, turn i, (level a).worked, roomy_columns (t a).args.s (t a).requires.lawful (t a).args.l a.loop-j.invariant.roomy, a.start_of-from.ensures.0); level_small = above_small (level a) }
+    let a = l i in
+    record {
+      lawful = (t a).requires.lawful;
+      l_le_depth = ((level a).deep, turn i, (level a).worked, roomy_columns (t a).args.s (t a).requires.lawful (t a).args.l a.loop-j.invariant.roomy, a.start_of-from.ensures.0);
+      level_small = above_small (level a);
+    }
 
 -- from where the row is there
 module _ (c : goal.After-row-in-loop-j-1) where

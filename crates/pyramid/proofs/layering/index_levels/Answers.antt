@@ -8,7 +8,12 @@ use Rattle.pyramid.proofs.IndexLevels.{Indexed, indexed_first, indexed_long, ind
 use Rattle.pyramid.proofs.layering.index_levels.Goals as goal
 
 pub index_level-requires : goal.index_level-requires
-index_level-requires c = let t = c.before in record { lawful = t.requires.lawful; index_level = index_ready t.args.s t.args.work.now t.requires.holds (t.requires.holds.each 0 (omega arith)).filled (omega arith) }
+index_level-requires c =
+    let t = c.before in
+    record {
+      lawful = t.requires.lawful;
+      index_level = index_ready t.args.s t.args.work.now t.requires.holds (t.requires.holds.each 0 (omega arith)).filled (omega arith);
+    }
 
 pub loop-l-init : goal.loop-l-init
 loop-l-init c =
@@ -19,7 +24,11 @@ loop-l-init c =
 pub index_level-requires-in-loop-l : goal.index_level-requires-in-loop-l
 index_level-requires-in-loop-l c =
     let l = c.before.before.before in
-    let t = l.before.before.before.before in record { lawful = t.requires.lawful; index_level = index_ready t.args.s t.args.work.now t.requires.holds (indexed_long t.args.s t.args.work.now l.loop-l.invariant) (omega (arith, c.loop-l-test.true)) }
+    let t = l.before.before.before.before in
+    record {
+      lawful = t.requires.lawful;
+      index_level = index_ready t.args.s t.args.work.now t.requires.holds (indexed_long t.args.s t.args.work.now l.loop-l.invariant) (omega (arith, c.loop-l-test.true));
+    }
 
 pub loop-l-preserved : goal.loop-l-preserved
 loop-l-preserved c =

@@ -1,4 +1,4 @@
--- `pyramid::layering::index_levels` meets its contract: each turn makes the indices of one level more. Assumes nothing.
+-- What the loop of `pyramid::layering::index_levels` keeps, and what falls with each turn.
 use Prim.Native.Nat.{◌-◌}
 use Rattle.pyramid.proofs.IndexLevels.{Indexed}
 use Rattle.pyramid.proofs.layering.index_levels.Given as goal

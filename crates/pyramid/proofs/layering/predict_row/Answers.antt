@@ -69,7 +69,12 @@ slice_bounds-expand_row-end c = inside c
 pub expand_row-requires : goal.expand_row-requires
 expand_row-requires c =
     let r = c.before.before in
-    let a = (t r).args in record { kernel = (t r).requires.lawful.shaped.kernel; source = below-source a.s a.l a.j a.work.now (t r).requires.lawful (t r).requires.l_le_depth.2 (below r) (place r) (end r) (along r) (across r) 524288 (t r).requires.level_small; j_bound = below_sizes a.s a.l a.j a.work.now (t r).requires.lawful (t r).requires.l_le_depth.2 (below r) (place r) (end r) (along r) (across r) (length a.row.now) (t r).requires.l_le_depth.1 (t r).requires.l_le_depth.3 }
+    let a = (t r).args in
+    record {
+      kernel = (t r).requires.lawful.shaped.kernel;
+      source = below-source a.s a.l a.j a.work.now (t r).requires.lawful (t r).requires.l_le_depth.2 (below r) (place r) (end r) (along r) (across r) 524288 (t r).requires.level_small;
+      j_bound = below_sizes a.s a.l a.j a.work.now (t r).requires.lawful (t r).requires.l_le_depth.2 (below r) (place r) (end r) (along r) (across r) (length a.row.now) (t r).requires.l_le_depth.1 (t r).requires.l_le_depth.3;
+    }
 
 pub returns-then-l-s : goal.returns-then-l-s
 returns-then-l-s c =

@@ -98,7 +98,12 @@ slice_bounds-predict_row-end c = sym c.loop-j.invariant.roomy.long
 pub predict_row-requires : goal.predict_row-requires
 predict_row-requires c =
     let i = c.before in
-    let a = l i in record { lawful = (t a).requires.lawful; l_le_depth = ((level a).deep, turn i, omega (arith, (level a).worked, a.loop-j.invariant.rendered.long), roomy_columns (t a).args.s (t a).requires.lawful (t a).args.l a.loop-j.invariant.roomy, a.start_of-from.ensures.0); level_small = above a }
+    let a = l i in
+    record {
+      lawful = (t a).requires.lawful;
+      l_le_depth = ((level a).deep, turn i, omega (arith, (level a).worked, a.loop-j.invariant.rendered.long), roomy_columns (t a).args.s (t a).requires.lawful (t a).args.l a.loop-j.invariant.roomy, a.start_of-from.ensures.0);
+      level_small = above a;
+    }
 
 pub overflow_add-to : goal.overflow_add-to
 overflow_add-to c =

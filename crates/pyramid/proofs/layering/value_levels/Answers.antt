@@ -39,7 +39,11 @@ module _ (n : In-loop-l) where
   below_deep = omega (arith, n.loop-l.invariant.deep)
 
 pub value_level-requires : goal.value_level-requires
-value_level-requires c = record { lawful = c.requires.lawful; value_level = level_ready (given c.before) c.args.s.depth (omega arith) (rebuilding-first (given c.before)) }
+value_level-requires c =
+    record {
+      lawful = c.requires.lawful;
+      value_level = level_ready (given c.before) c.args.s.depth (omega arith) (rebuilding-first (given c.before));
+    }
 
 pub loop-l-init : goal.loop-l-init
 loop-l-init c = record { deep = omega arith; made = λ g top. top }
@@ -47,7 +51,11 @@ loop-l-init c = record { deep = omega arith; made = λ g top. top }
 pub value_level-requires-in-loop-l : goal.value_level-requires-in-loop-l
 value_level-requires-in-loop-l c =
     let n = c.before in
-    let a = n.before in record { lawful = (t a).requires.lawful; value_level = level_ready (given (t a)) (below n) (below_deep n) (rebuilding-next (given (t a)) a.loop-l.l a.loop-l.invariant.deep (so_far a) n.loop-l-test.true) }
+    let a = n.before in
+    record {
+      lawful = (t a).requires.lawful;
+      value_level = level_ready (given (t a)) (below n) (below_deep n) (rebuilding-next (given (t a)) a.loop-l.l a.loop-l.invariant.deep (so_far a) n.loop-l-test.true);
+    }
 
 pub loop-l-preserved : goal.loop-l-preserved
 loop-l-preserved c =

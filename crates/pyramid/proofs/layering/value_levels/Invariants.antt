@@ -1,4 +1,4 @@
--- `pyramid::layering::value_levels` meets its contract: each turn rebuilds one level more, downward. The measure is l. Assumes nothing.
+-- What the loop of `pyramid::layering::value_levels` keeps, and what falls with each turn.
 use mathlib.Core.List.{List}
 use Prim.Native.Nat.{ℕ, ◌+◌, ◌≤◌}
 use lib.IntN.{ℤ}

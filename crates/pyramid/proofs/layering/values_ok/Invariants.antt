@@ -1,5 +1,4 @@
--- `pyramid::layering::values_ok` meets its contract. The loop's invariant: the answer is that of levels l to 0. The measure is l.
--- Assumes nothing.
+-- What the loop of `pyramid::layering::values_ok` keeps, and what falls with each turn.
 use mathlib.Core.Path.{◌≡◌}
 use mathlib.Core.List.{List}
 use Prim.Native.Nat.{ℕ, ◌≤◌}

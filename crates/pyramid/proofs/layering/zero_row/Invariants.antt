@@ -1,4 +1,4 @@
--- `pyramid::layering::zero_row` meets its contract: each turn of its loop stores one 0. Assumes nothing.
+-- What the loop of `pyramid::layering::zero_row` keeps, and what falls with each turn.
 use Prim.Native.Nat.{◌-◌}
 use lib.IntN.{pos}
 use Rattle.mathematics.proofs.Filling.{Filling}

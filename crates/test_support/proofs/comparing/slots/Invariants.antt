@@ -1,4 +1,4 @@
--- `test_support::comparing::slots` meets its contract: the slots before i are alike. Assumes nothing.
+-- What the loop of `test_support::comparing::slots` keeps, and what falls with each turn.
 use Prim.Native.Nat.{◌-◌}
 use lib.Dec.{eqb}
 use lib.ListN.{get_or}

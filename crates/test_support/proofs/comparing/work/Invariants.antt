@@ -1,4 +1,4 @@
--- `test_support::comparing::work` meets its contract: the places before i are alike. Assumes nothing.
+-- What the loop of `test_support::comparing::work` keeps, and what falls with each turn.
 use Prim.Native.Nat.{◌-◌}
 use lib.IntN.{pos}
 use lib.ListN.{get_or}

@@ -1,4 +1,4 @@
--- `test_support::faults::first_of` meets its contract: the numbers before place i are not in the set. Assumes nothing.
+-- What the loop of `test_support::faults::first_of` keeps, and what falls with each turn.
 use mathlib.Core.Path.{◌≡◌}
 use Prim.Native.Nat.{◌-◌}
 use lib.ListN.{length, drop}

@@ -1,4 +1,4 @@
--- `test_support::faults::has` meets its contract: the numbers before place i are not the one, or not in the set. Assumes nothing.
+-- What the loop of `test_support::faults::has` keeps, and what falls with each turn.
 use mathlib.Core.Path.{◌≡◌}
 use Prim.Native.Nat.{◌-◌}
 use lib.ListN.{length, drop}

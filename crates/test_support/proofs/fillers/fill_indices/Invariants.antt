@@ -1,4 +1,4 @@
--- `test_support::fillers::fill_indices` meets its contract: each turn of its loop stores one filler. Assumes nothing.
+-- What the loop of `test_support::fillers::fill_indices` keeps, and what falls with each turn.
 use Prim.Native.Nat.{◌-◌}
 use lib.ListN.{length}
 use Rattle.mathematics.proofs.Filling.{Filling}

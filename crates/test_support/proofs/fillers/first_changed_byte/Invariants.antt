@@ -1,4 +1,4 @@
--- `test_support::fillers::first_changed_byte` meets its contract: the places before i are unchanged, or before the first to look at. Assumes nothing.
+-- What the loop of `test_support::fillers::first_changed_byte` keeps, and what falls with each turn.
 use mathlib.Core.Bool.{true, cond}
 use Prim.Native.Nat.{◌-◌, ◌≤◌}
 use lib.Dec.{eqb, ltb}

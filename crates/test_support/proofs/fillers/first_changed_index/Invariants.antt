@@ -1,4 +1,4 @@
--- `test_support::fillers::first_changed_index` meets its contract: the places before i are unchanged. Assumes nothing.
+-- What the loop of `test_support::fillers::first_changed_index` keeps, and what falls with each turn.
 use Prim.Native.Nat.{◌-◌}
 use lib.IntN.{pos}
 use lib.ListN.{length, get_or}

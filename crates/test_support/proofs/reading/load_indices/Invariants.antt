@@ -1,4 +1,4 @@
--- `test_support::reading::load_indices` meets its contract: each turn of its loop stores one index. Assumes nothing.
+-- What the loop of `test_support::reading::load_indices` keeps, and what falls with each turn.
 use Prim.Native.Nat.{◌-◌, ◌*◌}
 use Rattle.mathematics.proofs.Filling.{Filling}
 use Rattle.test_support.specs.Definitions.Numbers.{signed16}

@@ -1,4 +1,4 @@
--- `test_vectors::sizes::nodes` meets its contract: no level has more nodes than level 0. Assumes nothing.
+-- What the loop of `test_vectors::sizes::nodes` keeps, and what falls with each turn.
 use Prim.Native.Nat.{◌+◌, ◌*◌, ◌-◌, ◌≤◌}
 use Rattle.test_vectors.proofs.sizes.nodes.Given as goal
 
