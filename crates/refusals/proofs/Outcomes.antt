@@ -1,5 +1,7 @@
 -- Laws of outcomes and numbers. Assumes nothing.
 use Rattle.std.proofs.Common.{◌≡◌, refl, sym, ap, ◌∙◌, Bool, ℕ, zero, suc, ◌≤◌, eqb, get_or, Result, Ok, Err, arith}
+use Rattle.std.specs.Prelude.{IsErrAnd}
+use Rattle.std.proofs.lemmas.Result.{err_from_is_err_and}
 use lib.Dec.{T, eqb→eq}
 use Rattle.mathematics.specs.Definitions.Tests.{all_below}
 use Rattle.mathematics.proofs.Tests.{below_at}
@@ -69,6 +71,14 @@ module _ {A : Type 0} (value : A) where
   unfolding outcome
   passes other zero e = absurd (err_ok (sym e))
   passes other (suc n) e = err_of e
+
+-- ---- what is returned where a call's error is passed on by `?`: the number is that of the call, which is not 0
+
+pub passed_on : {A B : Type 0} (value : A) (other : B) (n : ℕ) {m : ℕ} (returned : Result B Refusal) (e : Refusal)
+    → IsErrAnd returned (λ r. r ≡ e) → Err e ≡ outcome n value → ((n ≡ 0 → ⊥) → m ≡ n) → returned ≡ outcome m other
+passed_on value other n returned e is said same =
+    let (r, was, from) = err_from_is_err_and returned is in
+    rw (was, from, same (some value n (sym said))) (passes value other n (sym said))
 
 -- ---- numbers and refusals stand for each other
 
