@@ -8,7 +8,7 @@ use Rattle.mathematics.proofs.Tests.{below_at}
 use Rattle.refusals.specs.declared.Refusal.{Refusal}
 use Rattle.refusals.specs.declared.Refusal.TheVariants.{Size, Kernel, Bin, Reading, PictureLength, LevelsLength, WorkLength, FileLength, FileEnds, Count, Index, BytesAfter, Depth, Columns, Rows, Header, Greatest, PixelCount}
 use Rattle.refusals.specs.Definitions.Numbers.{number}
-use Rattle.refusals.specs.Definitions.Outcomes.{refusals, outcome, answer}
+use Rattle.refusals.specs.Definitions.Outcomes.{refusals, outcome, answer_number}
 use Rattle.refusals.specs.Checks.Numbers.{OneNumberEach}
 
 err_ok : {A : Type 0} {r : Refusal} {value : A} → Err r ≡ Ok value → ⊥
@@ -89,8 +89,8 @@ all-in-order : T (all_below 18 at-place)
 unfolding all_below
 all-in-order = tt
 
-answered-by : {A : Type 0} (n : ℕ) (value : A) → n ≤ 18 → answer (outcome n value) ≡ n
-unfolding outcome answer
+answered-by : {A : Type 0} (n : ℕ) (value : A) → n ≤ 18 → answer_number (outcome n value) ≡ n
+unfolding outcome answer_number
 answered-by zero value h = refl
 answered-by (suc n) value h = eqb→eq _ _ (below_at 18 at-place all-in-order n (omega arith))
 

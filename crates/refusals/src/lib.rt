@@ -3,6 +3,7 @@
 
 ghost use Rattle.std.specs.Prelude.{◌≡◌};
 ghost use Rattle.refusals.specs.Definitions.Numbers.{number};
+ghost use Rattle.refusals.specs.Definitions.Outcomes.{answer_number};
 
 // Each refusal, after the rule that is broken.
 #[derive(Clone, Copy, PartialEq, Eq)]
@@ -32,5 +33,16 @@ impl From<Refusal> for u16 {
 
     fn from(refusal: Refusal) -> u16 {
         refusal as u16
+    }
+}
+
+// The number of what a call answers, for callers that know numbers alone: 0 where the call is accepted.
+#[tactic(auto, unfolding(crate::specs::Definitions::Outcomes::answer_number))]
+pub fn answer_number<T: Copy>(answer: Result<T, Refusal>) -> u16
+    ensures { result ≡ answer_number answer }
+{
+    match answer {
+        Ok(_) => 0,
+        Err(refusal) => u16::from(refusal),
     }
 }

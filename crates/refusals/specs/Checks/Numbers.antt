@@ -3,11 +3,11 @@
 use Rattle.std.specs.Prelude.{◌≡◌, ℕ, ◌≤◌, Ok, Err}
 use Rattle.refusals.specs.declared.Refusal.{Refusal}
 use Rattle.refusals.specs.Definitions.Numbers.{number}
-use Rattle.refusals.specs.Definitions.Outcomes.{outcome, answer}
+use Rattle.refusals.specs.Definitions.Outcomes.{outcome, answer_number}
 
 pub record OneNumberEach : Type 1 where
   pub range : (r : Refusal) → (1 ≤ number r) × (number r ≤ 18)
   pub refused : {A : Type 0} (r : Refusal) (value : A) → outcome (number r) value ≡ Err r
   pub accepted : {A : Type 0} (value : A) → outcome 0 value ≡ Ok value
-  pub answered : {A : Type 0} (n : ℕ) (value : A) → n ≤ 18 → answer (outcome n value) ≡ n
+  pub answered : {A : Type 0} (n : ℕ) (value : A) → n ≤ 18 → answer_number (outcome n value) ≡ n
   pub apart : (r q : Refusal) → number r ≡ number q → r ≡ q

@@ -34,6 +34,6 @@ outcome zero value = Ok value
 outcome (suc n) value = Err (get_or refusals n PixelCount)
 
 -- the number alone: 0 where a call is accepted
-unfoldable pub answer : {A : Type 0} → Result A Refusal → ℕ
-answer (Ok value) = 0
-answer (Err refusal) = number refusal
+unfoldable pub answer_number : {A : Type 0} → Result A Refusal → ℕ
+answer_number (Ok value) = 0
+answer_number (Err refusal) = number refusal
