@@ -12,7 +12,7 @@ fn magnify(kernel: u16, distance: u16) -> u16
     ensures { result ≡ magnified kernel distance }
 {
     if kernel == 6 {
-        return ((196 * distance as u32 + 99) / 100) as u16;
+        return (196 * u32::from(distance)).div_ceil(100) as u16;
     }
     distance
 }
@@ -22,15 +22,13 @@ pub fn bound_slots(s: Settings) -> [u16; 7]
     requires { Lawful s }
     ensures { result ≡ bound_slots s }
 {
-    let bins = s.bins;
+    let top = usize::from(s.depth);
     let mut out: [u16; 7] = [0; 7];
-    let mut l = s.depth as usize;
-    let mut b = bins[l] / 2;
-    out[l] = b;
-    while 0 < l {
-        l -= 1;
-        b = magnify(s.kernel, b) + bins[l] / 2;
-        out[l] = b;
+    let mut bound = s.bins[top] / 2;
+    out[top] = bound;
+    for l in (0..top).rev() {
+        bound = magnify(s.kernel, bound) + s.bins[l] / 2;
+        out[l] = bound;
     }
     out
 }

@@ -28,8 +28,8 @@ pub fn deepest(columns: u16, rows: u16) -> u16
     requires { (1 ≤ columns) × (1 ≤ rows) }
     ensures { result ≡ deepest_depth columns rows }
 {
-    let c = u16::trailing_zeros(columns - 1);
-    let r = u16::trailing_zeros(rows - 1);
+    let c = (columns - 1).trailing_zeros();
+    let r = (rows - 1).trailing_zeros();
     c.min(r).min(6) as u16
 }
 
@@ -41,7 +41,7 @@ fn kernel_ok(kernel: u16) -> bool
 }
 
 #[tactic(auto, unfolding(crate::specs::Definitions::Settings::slot_ok))]
-fn slot_ok(depth: u16, level: u16, bin: u16) -> bool
+fn slot_ok(depth: usize, level: usize, bin: u16) -> bool
     ensures { result ≡ slot_ok depth level bin }
 {
     if level <= depth {
@@ -54,13 +54,10 @@ fn slot_ok(depth: u16, level: u16, bin: u16) -> bool
 fn bins_ok(s: Settings) -> bool
     ensures { result ≡ bins_ok s }
 {
-    let bins = s.bins;
-    let mut l: u16 = 0;
-    while l < 7 {
-        if !slot_ok(s.depth, l, bins[l as usize]) {
+    for (level, &bin) in s.bins.iter().enumerate() {
+        if !slot_ok(usize::from(s.depth), level, bin) {
             return false;
         }
-        l += 1;
     }
     true
 }

@@ -11,7 +11,7 @@ fn last_at(side: u16, level: u16) -> usize
     requires { (1 ≤ side) × (level ≤ 6) }
     ensures { result ≡ last side level }
 {
-    ((side - 1) >> level) as usize
+    usize::from((side - 1) >> level)
 }
 
 pub fn columns_at(s: Settings, level: u16) -> usize
@@ -36,10 +36,8 @@ fn nodes_to(s: Settings, n: u16) -> usize
     requires n_le_depth { n ≤ s.depth }
     ensures { (result ≡ nodes_to s n) × (result ≤ 22359) }
 {
-    let mut l: u16 = 0;
-    let mut t = rows_at(s, 0) * columns_at(s, 0);
-    while l < n {
-        l += 1;
+    let mut t = 0;
+    for l in 0..=n {
         t += rows_at(s, l) * columns_at(s, l);
     }
     t

@@ -37,21 +37,8 @@ pub fn average_levels(s: Settings, work: &mut [i32])
     ensures { work.new ≡
         splice 0 (all_levels s (average s (read_levels s work.old 0))) work.old }
 {
-    let mut l: u16 = 0;
-    while l < s.depth {
+    for l in 0..s.depth {
         average_level(s, l, work);
-        l += 1;
-    }
-}
-
-fn zero_row(row: &mut [i32], n: usize)
-    requires { n ≤ length row.old }
-    ensures { row.new ≡ splice 0 (tabulate n (λ i. pos 0)) row.old }
-{
-    let mut i = 0;
-    while i < n {
-        row[i] = 0;
-        i += 1;
     }
 }
 
@@ -66,7 +53,7 @@ fn predict_row(s: Settings, l: u16, from: usize, j: usize, work: &[i32], row: &m
         (λ i. predicted s (s.depth - l) l (read_levels s work.now) i j)) row.old }
 {
     if l == s.depth {
-        zero_row(row, counting::columns_at(s, l));
+        row[..counting::columns_at(s, l)].fill(0);
     } else {
         let columns = counting::columns_at(s, l + 1);
         let rows = counting::rows_at(s, l + 1);
@@ -83,20 +70,16 @@ fn index_level(s: Settings, l: u16, work: &[i32], levels: &mut [i16])
         splice (start s l) (level_raster s (index_at s (read_levels s work.now)) l)
         levels.old }
 {
-    let bins = s.bins;
-    let bin = bins[l as usize];
+    let bin = s.bins[l as usize];
     let columns = counting::columns_at(s, l);
     let rows = counting::rows_at(s, l);
     let mut row: [i32; 129] = [0; 129];
     let from = counting::start_of(s, l);
-    let mut at = from;
-    let mut j = 0;
-    while j < rows {
+    for j in 0..rows {
         predict_row(s, l, from, j, work, &mut row);
+        let at = from + j * columns;
         let to = at + columns;
         copying::index_row(&work[at..to], &row, bin, levels, at);
-        at = to;
-        j += 1;
     }
 }
 
@@ -106,10 +89,7 @@ pub fn index_levels(s: Settings, work: &[i32], levels: &mut [i16])
     requires holds { Holds s work.now levels.old }
     ensures { levels.new ≡ all_levels s (index_at s (read_levels s work.now)) }
 {
-    let mut l: u16 = 0;
-    index_level(s, l, work, levels);
-    while l < s.depth {
-        l += 1;
+    for l in 0..=s.depth {
         index_level(s, l, work, levels);
     }
 }
@@ -123,20 +103,16 @@ fn value_level(s: Settings, l: u16, levels: &[i16], work: &mut [i32])
         (level_raster s (value_at s (read_levels s levels.now) (read_levels s work.old)) l)
         work.old }
 {
-    let bins = s.bins;
-    let bin = bins[l as usize];
+    let bin = s.bins[l as usize];
     let columns = counting::columns_at(s, l);
     let rows = counting::rows_at(s, l);
     let mut row: [i32; 129] = [0; 129];
     let from = counting::start_of(s, l);
-    let mut at = from;
-    let mut j = 0;
-    while j < rows {
+    for j in 0..rows {
         predict_row(s, l, from, j, work, &mut row);
+        let at = from + j * columns;
         let to = at + columns;
         copying::value_row(&levels[at..to], &row, bin, work, at);
-        at = to;
-        j += 1;
     }
 }
 
@@ -148,10 +124,7 @@ pub fn value_levels(s: Settings, levels: &[i16], work: &mut [i32])
     ensures { work.new ≡
         splice 0 (all_levels s (rebuilt s (read_levels s levels.now))) work.old }
 {
-    let mut l = s.depth;
-    value_level(s, l, levels, work);
-    while 0 < l {
-        l -= 1;
+    for l in (0..=s.depth).rev() {
         value_level(s, l, levels, work);
     }
 }
@@ -164,8 +137,7 @@ fn level_ok(s: Settings, l: u16, levels: &[i16]) -> bool
         all (λ v. leb (nat_abs v) limit)
         (level_raster s (λ l i j. value_of s l (read_levels s levels.now l i j)) l) }
 {
-    let bins = s.bins;
-    let bin = bins[l as usize];
+    let bin = s.bins[l as usize];
     let at = counting::start_of(s, l);
     let to = at + counting::rows_at(s, l) * counting::columns_at(s, l);
     copying::values_within(&levels[at..to], bin)
@@ -177,12 +149,10 @@ pub fn values_ok(s: Settings, levels: &[i16]) -> bool
     requires levels_len { length levels.now ≡ total s }
     ensures { result ≡ values_ok s levels.now }
 {
-    let mut l = s.depth;
-    while 0 < l {
+    for l in (0..=s.depth).rev() {
         if !level_ok(s, l, levels) {
             return false;
         }
-        l -= 1;
     }
-    level_ok(s, l, levels)
+    true
 }

@@ -3,15 +3,12 @@ use mathlib.Core.Path.{◌≡◌, sym, ap, ap₂, ◌∙◌}
 use Prim.Native.Nat.{ℕ, suc, ◌+◌, ◌-◌, ◌*◌, ◌≤◌, ◌<◌}
 use native.Mathlib.Numerals.{add-one}
 use native.Mathlib.Omega.{arith}
-use lib.IntN.{pos}
 use lib.ListN.{length}
-use Rattle.mathematics.specs.Definitions.Tables.{tabulate}
-use Rattle.mathematics.specs.Inner.Splices.{splice}
 use Rattle.pyramid.specs.Definitions.Sizes.{columns_at, rows_at, nodes_at, total}
 use Rattle.pyramid.specs.Definitions.Buffers.{start}
 use Rattle.pyramid.proofs.Sizes.{total_most}
 use Rattle.pyramid.proofs.LevelParts.{start-below, level_inside}
-use Rattle.pyramid.proofs.Prediction.{top_row, below_row, below-source, below_sizes}
+use Rattle.pyramid.proofs.Prediction.{zeros_written, top_row, below_row, below-source, below_sizes}
 use Rattle.pyramid.proofs.layering.predict_row.Goals as goal
 use Rattle.pyramid.proofs.layering.predict_row.Lts as lts
 use Rattle.pyramid.proofs.layering.predict_row.Reads as reads
@@ -78,10 +75,8 @@ expand_row-requires c =
 
 pub returns-then-l-s : goal.returns-then-l-s
 returns-then-l-s c =
-    let t = c.before.before.before.before.before.before in
-    let a = t.args in
-    c.zero_row.ensures
-    ∙ ap (λ (n : ℕ). splice 0 (tabulate n (λ i. pos 0)) a.row.now) c.columns_at.ensures.0
+    let a = c.args in
+    rw (c.fill.ensures.after (λ y h. h), c.columns_at.ensures.0) (zeros_written (columns_at a.s a.l) a.row.now c.requires.l_le_depth.3)
     ∙ top_row a.s a.l a.j a.work.now a.row.now (omega (arith, c.if-l-s.true))
 
 pub returns-else-l-s : goal.returns-else-l-s
