@@ -2,9 +2,8 @@
 ghost use Rattle.std.specs.Prelude.{◌≡◌, ◌≤◌, ◌<◌};
 ghost use Rattle.pyramid.specs.Definitions.Bound.{magnified};
 ghost use Rattle.pyramid.specs.Definitions.Answers.{bound_slots};
-ghost use Rattle.pyramid.specs.Inner.Lawful.{Lawful};
 
-use crate::Settings;
+use crate::LawfulSettings;
 
 // A distance times the kernel's multiplier, rounded up: 1.96 for kernel 6, 1 for the others.
 fn magnify(kernel: u16, distance: u16) -> u16
@@ -18,16 +17,15 @@ fn magnify(kernel: u16, distance: u16) -> u16
 }
 
 // The bound of each level in its slot.
-pub fn bound_slots(s: Settings) -> [u16; 7]
-    requires { Lawful s }
-    ensures { result ≡ bound_slots s }
+pub fn bound_slots(s: LawfulSettings) -> [u16; 7]
+    ensures { result ≡ bound_slots s.shape.settings }
 {
-    let top = usize::from(s.depth);
+    let top = usize::from(s.shape.settings.depth);
     let mut out: [u16; 7] = [0; 7];
-    let mut bound = s.bins[top] / 2;
+    let mut bound = s.shape.settings.bins[top] / 2;
     out[top] = bound;
     for l in (0..top).rev() {
-        bound = magnify(s.kernel, bound) + s.bins[l] / 2;
+        bound = magnify(s.shape.settings.kernel, bound) + s.shape.settings.bins[l] / 2;
         out[l] = bound;
     }
     out

@@ -6,7 +6,7 @@ ghost use Rattle.pyramid.specs.Definitions.Settings.{side_ok, size_ok, kernel_ok
 ghost use Rattle.pyramid.specs.Definitions.Depth.{deepest_depth};
 ghost use Rattle.pyramid.specs.Definitions.Refusals.{shape_refusal, settings_refusal};
 
-use crate::Settings;
+use crate::{LawfulSettings, Settings};
 use refusals::Refusal;
 
 #[tactic(auto, unfolding(crate::specs::Definitions::Settings::side_ok))]
@@ -51,7 +51,7 @@ fn slot_ok(depth: usize, level: usize, bin: u16) -> bool
     }
 }
 
-fn bins_ok(s: Settings) -> bool
+pub fn bins_ok(s: Settings) -> bool
     ensures { result ≡ bins_ok s }
 {
     for (level, &bin) in s.bins.iter().enumerate() {
@@ -99,9 +99,6 @@ pub fn check_shape(s: Settings) -> Result<(), Refusal>
 pub fn check_settings(s: Settings) -> Result<(), Refusal>
     ensures { result ≡ outcome (settings_refusal s) tt }
 {
-    check_shape(s)?;
-    if !bins_ok(s) {
-        return Err(Refusal::Bin);
-    }
+    LawfulSettings::new(s)?;
     Ok(())
 }

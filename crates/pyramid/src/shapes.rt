@@ -6,7 +6,7 @@ ghost use Rattle.pyramid.specs.Definitions.Sizes.{total};
 ghost use Rattle.pyramid.specs.Definitions.Answers.{size_of, level_size_answer};
 ghost use Rattle.pyramid.specs.Inner.Lawful.{Shaped, Lawful};
 
-use crate::{LevelSize, Settings, checking, counting};
+use crate::{LevelSize, Settings, checking};
 use refusals::Refusal;
 
 // Settings whose shape is lawful.
@@ -31,7 +31,7 @@ impl Shape {
     pub fn nodes(self) -> u16
         ensures { result ≡ total self.settings }
     {
-        counting::total(self.settings) as u16
+        self.total() as u16
     }
 
     // The columns and rows of a level; 0 by 0 for a level above the depth.
@@ -45,17 +45,17 @@ impl Shape {
             };
         }
         LevelSize {
-            columns: counting::columns_at(self.settings, level) as u16,
-            rows: counting::rows_at(self.settings, level) as u16,
+            columns: self.columns_at(level) as u16,
+            rows: self.rows_at(level) as u16,
         }
     }
 }
 
-// Lawful settings.
+// A lawful shape with lawful bins: lawful settings.
 #[derive(Clone, Copy)]
 pub struct LawfulSettings {
-    pub settings: Settings,
-    pub ghost lawful: { Lawful settings },
+    pub shape: Shape,
+    pub ghost lawful: { Lawful shape.settings },
 }
 
 impl LawfulSettings {
@@ -65,15 +65,10 @@ impl LawfulSettings {
     pub fn new(s: Settings) -> Result<LawfulSettings, Refusal>
         ensures { lawful_settings result ≡ outcome (settings_refusal s) s }
     {
-        checking::check_settings(s)?;
-        Ok(LawfulSettings { settings: s })
-    }
-
-    pub fn shape(self) -> Shape
-        ensures { result.settings ≡ self.settings }
-    {
-        Shape {
-            settings: self.settings,
+        let shape = Shape::new(s)?;
+        if !checking::bins_ok(s) {
+            return Err(Refusal::Bin);
         }
+        Ok(LawfulSettings { shape })
     }
 }

@@ -1,6 +1,5 @@
 -- `pyramid::check_levels` meets its contract: each rule is looked at where those before it hold. Assumes nothing.
-use mathlib.Core.Path.{◌≡◌, refl, sym, ap, ◌∙◌, subst}
-use Rattle.refusals.specs.Definitions.Outcomes.{outcome}
+use mathlib.Core.Path.{sym}
 use Rattle.refusals.proofs.Outcomes.{refuses, accepts, none, value-is, passed_on}
 use borrow.Author.Tests.{eq-eqb, ne_eqb}
 use Rattle.refusals.specs.declared.Refusal.TheVariants.{LevelsLength, Index}

@@ -13,4 +13,4 @@ pub record Going (s : Settings) (l : ℕ) (work levels₀ levels row : List ℤ)
   pub roomy : Roomy row
 
 abbrev pub invariant-loop-j : goal.invariant-loop-j
-invariant-loop-j l = Going l.s l.l l.work l.initial.levels l.levels l.row l.j
+invariant-loop-j l = Going l.s.shape.settings l.l l.work l.initial.levels l.levels l.row l.j

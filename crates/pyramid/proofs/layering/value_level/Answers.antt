@@ -19,54 +19,54 @@ module _ (n : In-loop-j) where
   abbrev at : ℕ
   at = n.start_of-from.result + n.loop-j.j * n.columns_at-columns.result
 
-  turn : n.loop-j.j < rows_at n.args.s n.args.l
+  turn : n.loop-j.j < rows_at n.args.s.shape.settings n.args.l
   turn = omega (arith, n.loop-j-test.true, n.rows_at-rows.ensures.0)
 
-  across : n.columns_at-columns.result ≡ columns_at n.args.s n.args.l
+  across : n.columns_at-columns.result ≡ columns_at n.args.s.shape.settings n.args.l
   across = n.columns_at-columns.ensures.0
 
-  place : at ≡ start n.args.s n.args.l + n.loop-j.j * columns_at n.args.s n.args.l
+  place : at ≡ start n.args.s.shape.settings n.args.l + n.loop-j.j * columns_at n.args.s.shape.settings n.args.l
   place = rw (n.start_of-from.ensures.0, across)
 
   -- the next row lies inside
-  room : at + n.columns_at-columns.result ≤ total n.args.s
-  room = omega (arith, across, place, row_room n.args.s n.args.l n.loop-j.j n.requires.value_level.deep turn)
+  room : at + n.columns_at-columns.result ≤ total n.args.s.shape.settings
+  room = omega (arith, across, place, row_room n.args.s.shape.settings n.args.l n.loop-j.j n.requires.deep turn)
 
-  indices : part at (at + n.columns_at-columns.result) n.args.levels.now ≡ row_of n.args.s n.args.l n.loop-j.j n.args.levels.now
-  indices = given_row n.args.s n.args.l n.loop-j.j place across n.args.levels.now
+  indices : part at (at + n.columns_at-columns.result) n.args.levels.now ≡ row_of n.args.s.shape.settings n.args.l n.loop-j.j n.args.levels.now
+  indices = given_row n.args.s.shape.settings n.args.l n.loop-j.j place across n.args.levels.now
 
-  long : length (part at (at + n.columns_at-columns.result) n.args.levels.now) ≡ columns_at n.args.s n.args.l
-  long = ap length indices ∙ length_indices n.requires.value_level turn
+  long : length (part at (at + n.columns_at-columns.result) n.args.levels.now) ≡ columns_at n.args.s.shape.settings n.args.l
+  long = ap length indices ∙ length_indices n.requires turn
 
   near : at + n.columns_at-columns.result ≤ 22359
-  near = omega (arith, room, total_most n.args.s n.requires.lawful.shaped)
+  near = omega (arith, room, total_most n.args.s.shape.settings n.args.s.lawful.shaped)
 
-  above : LevelSmall n.args.s (suc n.args.l) 524288 n.loop-j.work
-  above = above_small n.requires.value_level n.loop-j.invariant.rendered
+  above : LevelSmall n.args.s.shape.settings (suc n.args.l) 524288 n.loop-j.work
+  above = above_small n.requires n.loop-j.invariant.rendered
 
   -- once the row is predicted
-  made_roomy : {made : List ℤ} → made ≡ splice 0 (tabulate (columns_at n.args.s n.args.l) (λ i. predicted n.args.s (n.args.s.depth - n.args.l) n.args.l (read_levels n.args.s n.loop-j.work) i n.loop-j.j)) n.loop-j.row
+  made_roomy : {made : List ℤ} → made ≡ splice 0 (tabulate (columns_at n.args.s.shape.settings n.args.l) (λ i. predicted n.args.s.shape.settings (n.args.s.shape.settings.depth - n.args.l) n.args.l (read_levels n.args.s.shape.settings n.loop-j.work) i n.loop-j.j)) n.loop-j.row
       → Roomy made
   made_roomy e =
       rw e
-      (roomy_predicted n.args.s n.requires.lawful n.args.l n.requires.value_level.deep (read_levels n.args.s n.loop-j.work) above.small n.loop-j.j turn n.loop-j.invariant.roomy)
+      (roomy_predicted n.args.s.shape.settings n.args.s.lawful n.args.l n.requires.deep (read_levels n.args.s.shape.settings n.loop-j.work) above.small n.loop-j.j turn n.loop-j.invariant.roomy)
 
 pub loop-j-init : goal.loop-j-init
 loop-j-init c = record { rendered = rendering_start _ _ _ _ _; roomy = roomy_zeros }
 
 pub predict_row-requires-clause-level_small : goal.predict_row-requires-clause-level_small
-predict_row-requires-clause-level_small c = above_small c.requires.value_level c.loop-j.invariant.rendered
+predict_row-requires-clause-level_small c = above_small c.requires c.loop-j.invariant.rendered
 
 pub slice_bounds-value_row-end : goal.slice_bounds-value_row-end
 slice_bounds-value_row-end c =
     let n = (goal.at.slice_bounds-value_row-end c).In-loop-j in
-    omega (arith, room n, n.requires.value_level.filled)
+    omega (arith, room n, n.requires.filled)
 
 pub value_row-requires-clause-indices_in_bounds : goal.value_row-requires-clause-indices_in_bounds
 value_row-requires-clause-indices_in_bounds c =
     let n = (goal.at.value_row-requires-clause-indices_in_bounds c).In-loop-j in
-    let v = n.requires.value_level in (
-      omega (arith, long n, roomy_columns n.args.s n.requires.lawful n.args.l (made_roomy n c.predict_row.ensures)),
+    let v = n.requires in (
+      omega (arith, long n, roomy_columns n.args.s.shape.settings n.args.s.lawful n.args.l (made_roomy n c.predict_row.ensures)),
       omega (arith, long n, across n, room n, v.worked, n.loop-j.invariant.rendered.long),
     )
 
@@ -76,14 +76,14 @@ value_row-requires-clause-small c = (made_roomy (goal.at.value_row-requires-clau
 pub value_row-requires-clause-values_within : goal.value_row-requires-clause-values_within
 value_row-requires-clause-values_within c =
     let n = (goal.at.value_row-requires-clause-values_within c).In-loop-j in
-    subst (λ (xs : List ℤ). ValuesWithin xs (bin n.args.s n.args.l)) (sym (indices n)) (values_within n.requires.value_level (turn n))
+    subst (λ (xs : List ℤ). ValuesWithin xs (bin n.args.s.shape.settings n.args.l)) (sym (indices n)) (values_within n.requires (turn n))
 
 pub loop-j-preserved : goal.loop-j-preserved
 loop-j-preserved c =
     let n = (goal.at.loop-j-preserved c).In-loop-j in
     record {
       rendered =
-          values_next n.requires.value_level n.loop-j.invariant.rendered n.requires.lawful (turn n)
+          values_next n.requires n.loop-j.invariant.rendered n.args.s.lawful (turn n)
           n.loop-j.row (place n) (indices n) c.predict_row.ensures c.value_row.ensures;
       roomy = made_roomy n c.predict_row.ensures;
     }

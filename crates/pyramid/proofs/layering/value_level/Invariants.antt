@@ -13,4 +13,4 @@ pub record Going (s : Settings) (l : ℕ) (levels work₀ work row : List ℤ) (
   pub roomy : Roomy row
 
 abbrev pub invariant-loop-j : goal.invariant-loop-j
-invariant-loop-j l = Going l.s l.l l.levels l.initial.work l.work l.row l.j
+invariant-loop-j l = Going l.s.shape.settings l.l l.levels l.initial.work l.work l.row l.j

@@ -4,15 +4,15 @@ use Rattle.pyramid.proofs.ValueLevels.{Rebuildable, rebuilding-first, level_read
 use Rattle.pyramid.proofs.layering.value_levels.Goals as goal
 use Rattle.pyramid.proofs.layering.value_levels.Goals.{Start}
 
-given : (t : Start) → Rebuildable t.args.s t.args.levels.now t.args.work.now
-given t = record { law = t.requires.lawful; filled = t.requires.levels_len.0; long = t.requires.levels_len.1; ranges = t.requires.rebuilding_ranges }
+given : (t : Start) → Rebuildable t.args.s.shape.settings t.args.levels.now t.args.work.now
+given t = record { law = t.args.s.lawful; filled = t.requires.levels_len.0; long = t.requires.levels_len.1; ranges = t.requires.rebuilding_ranges }
 
 pub loop-l-init : goal.loop-l-init
 loop-l-init c g = rebuilding-first g
 
-pub value_level-requires-clause-value_level : goal.value_level-requires-clause-value_level
-value_level-requires-clause-value_level c =
-    let g = given (goal.at.value_level-requires-clause-value_level c).Start in
+pub value_level-requires : goal.value_level-requires
+value_level-requires c =
+    let g = given (goal.at.value_level-requires c).Start in
     level_ready g c.loop-l.l (omega arith) (c.loop-l.invariant g)
 
 pub loop-l-preserved : goal.loop-l-preserved
