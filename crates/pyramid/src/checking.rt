@@ -51,7 +51,7 @@ fn slot_ok(depth: u16, level: u16, bin: u16) -> bool
     }
 }
 
-fn bins_ok(s: Settings) -> bool
+pub fn bins_ok(s: Settings) -> bool
     ensures { result ≡ bins_ok s }
 {
     let bins = s.bins;
