@@ -109,13 +109,7 @@ pub fn check_levels(s: Settings, levels: &[i16]) -> Result<(), Refusal>
     ensures { result ≡ outcome (levels_refusal s levels.now) tt }
 {
     let lawful = LawfulSettings::new(s)?;
-    if levels.len() != lawful.shape.total() {
-        Err(Refusal::LevelsLength)
-    } else if layering::values_ok(lawful, levels) {
-        Ok(())
-    } else {
-        Err(Refusal::Index)
-    }
+    lawful.check_levels(levels)
 }
 
 // The settings, or the first rule that they or the buffers' lengths break.
