@@ -15,7 +15,7 @@ overflow_cast-levels c =
     let l = c.before.before.before.before in
     let s = l.before.before in
     let i = l.loop-i.i in
-    index-fits (s.requires.small i) (s.requires.small_2 i) s.args.bin (s.requires.indices_within.at i (omega arith)) c.bin_index.ensures
+    index-fits (s.requires.small i) (s.requires.small_2 i) s.args.bin (s.requires.indices_within.at i (omega arith)) (rw c.new-rule.ensures at c.index.ensures)
 
 pub loop-i-preserved : goal.loop-i-preserved
 loop-i-preserved c =
@@ -23,7 +23,7 @@ loop-i-preserved c =
     let s = l.before.before in
     let i = l.loop-i.i in
     filling_next l.loop-i.invariant (omega arith) (omega arith)
-    (index_short (s.requires.small i) (s.requires.small_2 i) s.args.bin (s.requires.indices_within.at i (omega arith)) c.bin_index.ensures) (omega arith)
+    (index_short (s.requires.small i) (s.requires.small_2 i) s.args.bin (s.requires.indices_within.at i (omega arith)) (rw c.new-rule.ensures at c.index.ensures)) (omega arith)
 
 pub returns : goal.returns
 returns c = filling_end c.loop-i.invariant c.loop-i-test.false
