@@ -9,6 +9,7 @@ use borrow.Author.Tests.{eq-eqb, le-leb}
 use lib.Dec.{T, leb, eqb, leb→le, eqb→eq}
 use lib.IntN.{ℤ}
 use lib.ListN.{length}
+use Rattle.refusals.specs.Definitions.Outcomes.{outcome}
 use Rattle.pyramid.specs.declared.Settings.{Settings}
 use Rattle.pyramid.specs.Definitions.Settings.{size_ok, depth_ok, divides, kernel_ok, bins_ok}
 use Rattle.pyramid.specs.Definitions.Sizes.{total}
@@ -245,3 +246,10 @@ pub leaves_kept : {A : Type 0} (answer : ℕ) (new old : A) → (answer ≡ 0 �
 unfolding leaves
 leaves_kept zero new old refused = absurd (refused refl)
 leaves_kept (suc number) new old refused = refl
+
+-- ---- what a call answers where a refusal leaves a value
+
+pub outcome_left : {A : Type 0} (n : ℕ) (new old : A) → outcome n (leaves n new old) ≡ outcome n new
+unfolding outcome leaves
+outcome_left zero new old = refl
+outcome_left (suc n) new old = refl

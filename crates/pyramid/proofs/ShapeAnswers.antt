@@ -3,15 +3,12 @@ use mathlib.Core.Path.{◌≡◌, refl, sym, ◌∙◌}
 use Prim.Native.Nat.{ℕ, ◌*◌, ◌≤◌}
 use borrow.Author.Tests.{le-leb, eq-eqb}
 use Rattle.pyramid.specs.declared.Settings.{Settings}
-use Rattle.pyramid.specs.declared.LevelSize.{LevelSize}
-use Rattle.pyramid.specs.declared.Nodes.{Nodes}
-use Rattle.pyramid.specs.declared.Deepest.{Deepest}
 use Rattle.pyramid.specs.Definitions.Settings.{side_ok, depth_ok, divides, kernel_ok, size_ok}
 use Rattle.pyramid.specs.Definitions.Sizes.{columns_at, rows_at, nodes_at, total}
 use Rattle.pyramid.specs.Inner.Lawful.{Shaped}
 use Rattle.pyramid.specs.Definitions.Calls.{leaves}
 use Rattle.pyramid.specs.Definitions.Refusals.{unless, first, shape_refusal, settings_refusal}
-use Rattle.pyramid.specs.Definitions.Answers.{level_size_answer, nodes_answer, shape_answer, deepest_answer}
+use Rattle.pyramid.specs.Definitions.Answers.{LevelSizeAnswer, NodesAnswer, DeepestAnswer, level_size_answer, nodes_answer, shape_answer, deepest_answer}
 use Rattle.pyramid.proofs.Refusals.{leaves_new}
 use Rattle.pyramid.proofs.Sizes.{nodes_most}
 
@@ -35,27 +32,27 @@ module _ (s : Settings) (level : ℕ) (shape : Shaped s) (h : level ≤ s.depth)
   unfolding level_size_answer leaves
   level_size = rw (shape_accepted s shape, le-leb level s.depth h)
 
-  pub level_nodes : (size : LevelSize) → size ≡ level_size_answer s level
+  pub level_nodes : (size : LevelSizeAnswer) → size ≡ level_size_answer s level
       → (size.rows * size.columns ≡ nodes_at s level) × (size.rows * size.columns ≤ 16641)
   level_nodes size e = rw (e, level_size) (refl, nodes_most s shape level h)
 
-pub shape_answer_lem : (s : Settings) (answer : Nodes) → answer ≡ shape_answer s → answer.refusal ≡ shape_refusal s
+pub shape_answer_lem : (s : Settings) (answer : NodesAnswer) → answer ≡ shape_answer s → answer.refusal ≡ shape_refusal s
 unfolding shape_answer
 shape_answer_lem s answer e = rw e
 
-pub shape_total : (s : Settings) (answer : Nodes) → answer ≡ shape_answer s → Shaped s → answer.nodes ≡ total s
+pub shape_total : (s : Settings) (answer : NodesAnswer) → answer ≡ shape_answer s → Shaped s → answer.nodes ≡ total s
 unfolding shape_answer leaves
 shape_total s answer e shape = rw (e, shape_accepted s shape)
 
-pub nodes_answer_lem : (s : Settings) (answer : Nodes) → answer ≡ nodes_answer s → answer.refusal ≡ settings_refusal s
+pub nodes_answer_lem : (s : Settings) (answer : NodesAnswer) → answer ≡ nodes_answer s → answer.refusal ≡ settings_refusal s
 unfolding nodes_answer
 nodes_answer_lem s answer e = rw e
 
-pub nodes_total : (s : Settings) (answer : Nodes) → answer ≡ nodes_answer s → answer.refusal ≡ 0 → answer.nodes ≡ total s
+pub nodes_total : (s : Settings) (answer : NodesAnswer) → answer ≡ nodes_answer s → answer.refusal ≡ 0 → answer.nodes ≡ total s
 unfolding nodes_answer
 nodes_total s answer e none = rw e (leaves_new _ _ _ (sym (nodes_answer_lem s answer e) ∙ none))
 
 -- the deepest depth is refused on size only
-pub deepest_answer_lem : (columns rows : ℕ) (answer : Deepest) → answer ≡ deepest_answer columns rows → answer.refusal ≡ unless (size_ok columns rows) 1
+pub deepest_answer_lem : (columns rows : ℕ) (answer : DeepestAnswer) → answer ≡ deepest_answer columns rows → answer.refusal ≡ unless (size_ok columns rows) 1
 unfolding deepest_answer
 deepest_answer_lem columns rows answer e = rw e

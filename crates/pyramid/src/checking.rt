@@ -1,33 +1,26 @@
 // Whether settings are lawful (document 01, "Settings"), and which rule is broken first (document 02, P1).
-ghost use Rattle.std.specs.Prelude.{◌≡◌, true, ◌≤◌, ◌<◌, min};
+ghost use Rattle.std.specs.Prelude.{◌≡◌, true, ◌≤◌, ◌<◌};
+ghost use Rattle.refusals.specs.Definitions.Numbers.{number};
+ghost use Rattle.refusals.specs.Definitions.Outcomes.{outcome};
 ghost use Rattle.pyramid.specs.Definitions.Settings.{side_ok, size_ok, kernel_ok, slot_ok, bins_ok};
 ghost use Rattle.pyramid.specs.Definitions.Depth.{deepest_depth};
 ghost use Rattle.pyramid.specs.Definitions.Refusals.{shape_refusal, settings_refusal};
 
 use crate::Settings;
+use refusals::Refusal;
 
-fn lesser(a: u32, b: u32) -> u32
-    ensures { result ≡ min a b }
-{
-    if a <= b { a } else { b }
-}
-
+#[tactic(auto, unfolding(crate::specs::Definitions::Settings::side_ok))]
 fn side_ok(side: u16) -> bool
     ensures { result ≡ side_ok side }
 {
-    if 2 <= side {
-        return side <= 129;
-    }
-    false
+    (2..=129).contains(&side)
 }
 
+#[tactic(auto, unfolding(crate::specs::Definitions::Settings::size_ok))]
 pub fn size_ok(columns: u16, rows: u16) -> bool
     ensures { result ≡ size_ok columns rows }
 {
-    if side_ok(columns) {
-        return side_ok(rows);
-    }
-    false
+    side_ok(columns) && side_ok(rows)
 }
 
 // The fewer of the trailing zero bits of columns - 1 and rows - 1, but at most 6.
@@ -37,29 +30,25 @@ pub fn deepest(columns: u16, rows: u16) -> u16
 {
     let c = u16::trailing_zeros(columns - 1);
     let r = u16::trailing_zeros(rows - 1);
-    let d = lesser(lesser(c, r), 6);
-    d as u16
+    c.min(r).min(6) as u16
 }
 
+#[tactic(auto, unfolding(crate::specs::Definitions::Settings::kernel_ok))]
 fn kernel_ok(kernel: u16) -> bool
     ensures { result ≡ kernel_ok kernel }
 {
-    if 3 <= kernel {
-        return kernel <= 6;
-    }
-    false
+    (3..=6).contains(&kernel)
 }
 
+#[tactic(auto, unfolding(crate::specs::Definitions::Settings::slot_ok))]
 fn slot_ok(depth: u16, level: u16, bin: u16) -> bool
     ensures { result ≡ slot_ok depth level bin }
 {
     if level <= depth {
-        if 1 <= bin {
-            return bin <= 255;
-        }
-        return false;
+        (1..=255).contains(&bin)
+    } else {
+        bin == 0
     }
-    bin == 0
 }
 
 fn bins_ok(s: Settings) -> bool
@@ -76,48 +65,46 @@ fn bins_ok(s: Settings) -> bool
     true
 }
 
-// The number of the first rule that a depth above the deepest breaks: it is above 6, or above the deepest of the columns alone, or else too
-// deep for the rows.
-fn depth_refusal(s: Settings) -> u16
+// The first rule that a depth above the deepest breaks: it is above 6, or above the deepest of the columns alone, or else too deep for the
+// rows.
+fn depth_refusal(s: Settings) -> Refusal
     requires { (size_ok s.columns s.rows ≡ true) × (deepest_depth s.columns s.rows < s.depth) }
-    ensures { result ≡ shape_refusal s }
+    ensures { number result ≡ shape_refusal s }
 {
     let most = deepest(s.columns, s.columns);
     if 6 < s.depth {
-        return 13;
+        return Refusal::Depth;
     }
     if most < s.depth {
-        return 14;
+        return Refusal::Columns;
     }
-    15
+    Refusal::Rows
 }
 
-// The number of the first rule that the shape breaks, or 0. The bins are not looked at.
-pub fn shape_refusal(s: Settings) -> u16
-    ensures { result ≡ shape_refusal s }
+// The first rule that the shape breaks. The bins are not looked at.
+pub fn check_shape(s: Settings) -> Result<(), Refusal>
+    ensures { result ≡ outcome (shape_refusal s) tt }
 {
     if !size_ok(s.columns, s.rows) {
-        return 1;
+        return Err(Refusal::Size);
     }
     if deepest(s.columns, s.rows) < s.depth {
-        return depth_refusal(s);
+        return Err(depth_refusal(s));
     }
-    if !kernel_ok(s.kernel) {
-        return 2;
+    if kernel_ok(s.kernel) {
+        Ok(())
+    } else {
+        Err(Refusal::Kernel)
     }
-    0
 }
 
-// The number of the first rule that the settings break, or 0.
-pub fn settings_refusal(s: Settings) -> u16
-    ensures { result ≡ settings_refusal s }
+// The first rule that the settings break.
+pub fn check_settings(s: Settings) -> Result<(), Refusal>
+    ensures { result ≡ outcome (settings_refusal s) tt }
 {
-    let refusal = shape_refusal(s);
-    if refusal == 0 {
-        if bins_ok(s) {
-            return 0;
-        }
-        return 3;
+    check_shape(s)?;
+    if !bins_ok(s) {
+        return Err(Refusal::Bin);
     }
-    refusal
+    Ok(())
 }

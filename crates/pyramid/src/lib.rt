@@ -2,15 +2,17 @@
 #![tactic(auto)]
 
 ghost use Rattle.std.specs.Prelude.{◌≡◌, [], ◌∷◌, T};
-ghost use Rattle.pyramid.specs.Definitions.Answers.{nodes_answer, shape_answer, level_size_answer, bounds_answer, deepest_answer};
+ghost use Rattle.refusals.specs.Definitions.Outcomes.{outcome};
+ghost use Rattle.pyramid.specs.Definitions.Answers.{nodes_answer, shape_answer, size_of, level_size_answer, bounds_answer, deepest_answer};
 ghost use Rattle.pyramid.specs.Definitions.Pyramid.{average, index};
 ghost use Rattle.pyramid.specs.Definitions.Rebuilding.{rebuilt, clamp};
 ghost use Rattle.pyramid.specs.Definitions.Buffers.{raster, pixels, all_levels, read_levels};
 ghost use Rattle.pyramid.specs.Definitions.Refusals.{first, settings_refusal, buffers_refusal, values_ok, levels_refusal};
-ghost use Rattle.pyramid.specs.Definitions.Calls.{leaves, in_work, coding, rebuilding};
-ghost use Rattle.pyramid.specs.Definitions.Sizes.{total};
-ghost use Rattle.pyramid.specs.Inner.Lawful.{Shaped};
+ghost use Rattle.pyramid.specs.Definitions.Calls.{in_work, coding, rebuilding};
 ghost use Rattle.pyramid.specs.Inner.Accepted.{Accepted};
+ghost use Rattle.pyramid.specs.Inner.Shapes.{lawful_settings};
+
+use refusals::Refusal;
 
 mod averaging;
 mod bounding;
@@ -20,10 +22,14 @@ mod counting;
 mod expanding;
 mod layering;
 mod ranging;
+mod shapes;
 mod taps;
 
-// The number of the first rule that settings break: 1, 13, 14, 15, 2, 3, or 0.
-pub use checking::settings_refusal;
+// The first rule that settings break. Refused: 1, 13, 14, 15, 2, 3.
+pub use checking::check_settings;
+
+// Settings that are known to be lawful: the shape, and all of them.
+pub use shapes::{LawfulSettings, Shape};
 
 // Whether both ends of a range, and so all indices between, times their bin lie within 4,096 of 0.
 pub use ranging::range_ok;
@@ -41,26 +47,11 @@ pub struct Settings {
     pub bins: [u16; 7],
 }
 
-// The columns and rows of a level, or a refusal and 0 by 0.
+// The columns and rows of a level.
 #[derive(Clone, Copy)]
 pub struct LevelSize {
-    pub refusal: u16,
     pub columns: u16,
     pub rows: u16,
-}
-
-// The number of nodes of all levels, T, or a refusal and 0.
-#[derive(Clone, Copy)]
-pub struct Nodes {
-    pub refusal: u16,
-    pub nodes: u16,
-}
-
-// The bound of each level in its slot, 0 in the slots above the depth; or a refusal and 0 in all.
-#[derive(Clone, Copy)]
-pub struct Bounds {
-    pub refusal: u16,
-    pub levels: [u16; 7],
 }
 
 // The lowest and the highest of some indices and 0.
@@ -70,159 +61,103 @@ pub struct IndexRange {
     pub high: i16,
 }
 
-// The deepest depth of a size, or a refusal and 0.
-#[derive(Clone, Copy)]
-pub struct Deepest {
-    pub refusal: u16,
-    pub depth: u16,
-}
-
-// T where there is no refusal; else the refusal and 0.
-fn nodes_of(s: Settings, refusal: u16) -> Nodes
-    requires { refusal ≡ 0 → Shaped s }
-    ensures { result ≡ record { refusal = refusal; nodes = leaves refusal (total s) 0 } }
+// T, the number of nodes of all levels. Refused: 1, 13, 14, 15, 2, 3.
+pub fn total_nodes(s: Settings) -> Result<u16, Refusal>
+    ensures { result ≡ outcome (nodes_answer s).refusal (nodes_answer s).nodes }
 {
-    if refusal != 0 {
-        return Nodes {
-            refusal: refusal,
-            nodes: 0,
-        };
-    }
-    let t = counting::total(s);
-    Nodes {
-        refusal: 0,
-        nodes: t as u16,
-    }
-}
-
-// T of settings. Refused: 1, 13, 14, 15, 2, 3.
-pub fn total_nodes(s: Settings) -> Nodes
-    ensures { result ≡ nodes_answer s }
-{
-    nodes_of(s, checking::settings_refusal(s))
+    let lawful = LawfulSettings::new(s)?;
+    Ok(lawful.shape().nodes())
 }
 
 // T of a shape, whose bins are not looked at. Refused: 1, 13, 14, 15, 2.
-pub fn shape_nodes(s: Settings) -> Nodes
-    ensures { result ≡ shape_answer s }
+pub fn shape_nodes(s: Settings) -> Result<u16, Refusal>
+    ensures { result ≡ outcome (shape_answer s).refusal (shape_answer s).nodes }
 {
-    nodes_of(s, checking::shape_refusal(s))
+    let shape = Shape::new(s)?;
+    Ok(shape.nodes())
 }
 
 // The columns and rows of a level of a shape; 0 by 0 for a level above the depth. Refused: 1, 13, 14, 15, 2.
-pub fn level_size(s: Settings, level: u16) -> LevelSize
-    ensures { result ≡ level_size_answer s level }
+pub fn level_size(s: Settings, level: u16) -> Result<LevelSize, Refusal>
+    ensures { result ≡ outcome (level_size_answer s level).refusal (size_of (level_size_answer s level)) }
 {
-    let refusal = checking::shape_refusal(s);
-    if refusal != 0 {
-        return LevelSize {
-            refusal: refusal,
-            columns: 0,
-            rows: 0,
-        };
-    }
-    if s.depth < level {
-        return LevelSize {
-            refusal: 0,
-            columns: 0,
-            rows: 0,
-        };
-    }
-    let columns = counting::columns_at(s, level);
-    let rows = counting::rows_at(s, level);
-    LevelSize {
-        refusal: 0,
-        columns: columns as u16,
-        rows: rows as u16,
-    }
+    let shape = Shape::new(s)?;
+    Ok(shape.level_size(level))
 }
 
-// How far a rebuilt value of each level can lie from its average. Refused: 1, 13, 14, 15, 2, 3.
-pub fn level_bounds(s: Settings) -> Bounds
-    ensures { result ≡ bounds_answer s }
+// How far a rebuilt value of each level can lie from its average, each in its slot; 0 in the slots above the depth. Refused: 1, 13, 14, 15, 2,
+// 3.
+pub fn level_bounds(s: Settings) -> Result<[u16; 7], Refusal>
+    ensures { result ≡ outcome (bounds_answer s).refusal (bounds_answer s).levels }
 {
-    let refusal = checking::settings_refusal(s);
-    if refusal != 0 {
-        return Bounds {
-            refusal: refusal,
-            levels: [0; 7],
-        };
-    }
-    Bounds {
-        refusal: 0,
-        levels: bounding::bound_slots(s),
-    }
+    let lawful = LawfulSettings::new(s)?;
+    Ok(bounding::bound_slots(lawful.settings))
 }
 
 // The deepest depth that a size allows. Refused: 1, on size only.
-pub fn deepest_depth(columns: u16, rows: u16) -> Deepest
-    ensures { result ≡ deepest_answer columns rows }
+pub fn deepest_depth(columns: u16, rows: u16) -> Result<u16, Refusal>
+    ensures { result ≡ outcome (deepest_answer columns rows).refusal (deepest_answer columns rows).depth }
 {
-    if checking::size_ok(columns, rows) {
-        return Deepest {
-            refusal: 0,
-            depth: checking::deepest(columns, rows),
-        };
+    if !checking::size_ok(columns, rows) {
+        return Err(Refusal::Size);
     }
-    Deepest {
-        refusal: 1,
-        depth: 0,
-    }
+    Ok(checking::deepest(columns, rows))
 }
 
 // Whether rebuilding can take a level buffer, whatever the others are. Refused: 1, 13, 14, 15, 2, 3, 6, 11.
-pub fn levels_refusal(s: Settings, levels: &[i16]) -> u16
-    ensures { result ≡ levels_refusal s levels.now }
+pub fn check_levels(s: Settings, levels: &[i16]) -> Result<(), Refusal>
+    ensures { result ≡ outcome (levels_refusal s levels.now) tt }
 {
-    let refusal = checking::settings_refusal(s);
-    if refusal != 0 {
-        return refusal;
+    let lawful = LawfulSettings::new(s)?;
+    if levels.len() != counting::total(lawful.settings) {
+        Err(Refusal::LevelsLength)
+    } else if layering::values_ok(lawful.settings, levels) {
+        Ok(())
+    } else {
+        Err(Refusal::Index)
     }
-    if levels.len() == counting::total(s) {
-        if layering::values_ok(s, levels) {
-            return 0;
-        }
-        return 11;
-    }
-    6
 }
 
-// The first refusal of settings and of the buffers' lengths, or 0.
-fn call_refusal(s: Settings, picture: usize, levels: usize, work: usize) -> u16
-    ensures { result ≡ first (settings_refusal s ∷ buffers_refusal s picture levels work ∷ []) }
+// The settings, or the first rule that they or the buffers' lengths break.
+fn accepted(
+    s: Settings,
+    picture: usize,
+    levels: usize,
+    work: usize,
+) -> Result<LawfulSettings, Refusal>
+    ensures { lawful_settings result ≡ outcome (first (settings_refusal s ∷ buffers_refusal s picture levels work ∷ [])) s }
 {
-    let refusal = checking::settings_refusal(s);
-    if refusal != 0 {
-        return refusal;
+    let lawful = LawfulSettings::new(s)?;
+    if picture != lawful.settings.rows as usize * lawful.settings.columns as usize {
+        return Err(Refusal::PictureLength);
     }
-    if picture != s.rows as usize * s.columns as usize {
-        return 5;
-    }
-    let t = counting::total(s);
+    let t = counting::total(lawful.settings);
     if levels != t {
-        return 6;
+        return Err(Refusal::LevelsLength);
     }
     if work < t {
-        return 7;
+        return Err(Refusal::WorkLength);
     }
-    0
+    Ok(lawful)
 }
 
 // Codes a picture: its indices in the level buffer, its averages in the work buffer.
 // Refused: 1, 13, 14, 15, 2, 3, 5, 6, 7.
-pub fn coding(s: Settings, picture: &[u8], levels: &mut [i16], work: &mut [i32]) -> u16
-    ensures value { result ≡ (coding s picture.now levels.old work.old).answer }
+pub fn coding(
+    s: Settings,
+    picture: &[u8],
+    levels: &mut [i16],
+    work: &mut [i32],
+) -> Result<(), Refusal>
+    ensures value { result ≡ outcome (coding s picture.now levels.old work.old).answer tt }
     ensures levels_after { levels.new ≡
         (coding s picture.now levels.old work.old).levels }
     ensures work_after { work.new ≡
         (coding s picture.now levels.old work.old).work }
 {
-    let refusal = call_refusal(s, picture.len(), levels.len(), work.len());
-    if refusal != 0 {
-        return refusal;
-    }
-    code(s, picture, levels, work);
-    0
+    let lawful = accepted(s, picture.len(), levels.len(), work.len())?;
+    code(lawful.settings, picture, levels, work);
+    Ok(())
 }
 
 fn code(s: Settings, picture: &[u8], levels: &mut [i16], work: &mut [i32])
@@ -239,23 +174,24 @@ fn code(s: Settings, picture: &[u8], levels: &mut [i16], work: &mut [i32])
 
 // Rebuilds a picture from its level buffer: the unclamped values in the work buffer, the clamped ones in the picture.
 // Refused: 1, 13, 14, 15, 2, 3, 5, 6, 7, 11.
-pub fn rebuilding(s: Settings, levels: &[i16], picture: &mut [u8], work: &mut [i32]) -> u16
-    ensures value { result ≡
-        (rebuilding s levels.now picture.old work.old).answer }
+pub fn rebuilding(
+    s: Settings,
+    levels: &[i16],
+    picture: &mut [u8],
+    work: &mut [i32],
+) -> Result<(), Refusal>
+    ensures value { result ≡ outcome (rebuilding s levels.now picture.old work.old).answer tt }
     ensures picture_after { picture.new ≡
         (rebuilding s levels.now picture.old work.old).picture }
     ensures work_after { work.new ≡
         (rebuilding s levels.now picture.old work.old).work }
 {
-    let refusal = call_refusal(s, picture.len(), levels.len(), work.len());
-    if refusal != 0 {
-        return refusal;
+    let lawful = accepted(s, picture.len(), levels.len(), work.len())?;
+    if !layering::values_ok(lawful.settings, levels) {
+        return Err(Refusal::Index);
     }
-    if !layering::values_ok(s, levels) {
-        return 11;
-    }
-    rebuild(s, levels, picture, work);
-    0
+    rebuild(lawful.settings, levels, picture, work);
+    Ok(())
 }
 
 fn rebuild(s: Settings, levels: &[i16], picture: &mut [u8], work: &mut [i32])

@@ -1,17 +1,17 @@
--- `pyramid::level_bounds` meets its contract: accepted settings are lawful, and a refusal leaves 0 in every slot. Assumes nothing.
-use mathlib.Core.Path.{sym, ◌∙◌}
-use Rattle.pyramid.specs.Definitions.Calls.{leaves}
+-- `pyramid::level_bounds` meets its contract: bounds are made of settings that are accepted. Assumes nothing.
+use mathlib.Core.Path.{◌≡◌, refl, sym, ap, ◌∙◌, subst}
+use Rattle.refusals.specs.Definitions.Outcomes.{outcome}
+use Rattle.refusals.proofs.Outcomes.{refuses, accepts, none, value-is, passed_on}
 use Rattle.pyramid.specs.Definitions.Answers.{bounds_answer}
-use Rattle.pyramid.proofs.Refusals.{accepted_settings, leaves_kept}
+use Rattle.pyramid.proofs.Refusals.{outcome_left}
 use Rattle.pyramid.proofs.level_bounds.Goals as goal
 
-pub returns-then-refusal-ne0 : goal.returns-then-refusal-ne0
+pub returns-in_err-lawful : goal.returns-in_err-lawful
 unfolding bounds_answer
-returns-then-refusal-ne0 c = rw (← c.settings_refusal-refusal.ensures, leaves_kept _ _ _ c.if-refusal-ne0.true)
-
-pub bound_slots-requires : goal.bound_slots-requires
-bound_slots-requires c = accepted_settings _ (sym c.settings_refusal-refusal.ensures ∙ c.if-refusal-ne0.false)
+returns-in_err-lawful c = passed_on _ _ _ c.from_residual.result _ c.from_residual.ensures.1 c.in_err-lawful.ensures (λ _. refl)
 
 pub returns : goal.returns
-unfolding bounds_answer leaves
-returns c = rw (← c.settings_refusal-refusal.ensures, c.if-refusal-ne0.false, c.bound_slots.ensures)
+unfolding bounds_answer
+returns c =
+    let e = sym c.in_ok-lawful.ensures in
+    rw (outcome_left, c.bound_slots.ensures, value-is _ _ e) (accepts _ (none _ _ e))

@@ -1,12 +1,18 @@
--- `pyramid::shape_nodes` meets its contract: an accepted shape is lawful. Assumes nothing.
-use mathlib.Core.Path.{sym, ◌∙◌}
+-- `pyramid::shape_nodes` meets its contract: T is counted where a shape is accepted. Assumes nothing.
+use mathlib.Core.Path.{◌≡◌, refl, sym, ap, ◌∙◌, subst}
+use Rattle.refusals.specs.Definitions.Outcomes.{outcome}
+use Rattle.refusals.proofs.Outcomes.{refuses, accepts, none, value-is, passed_on}
+use Rattle.pyramid.specs.Definitions.Sizes.{total}
 use Rattle.pyramid.specs.Definitions.Answers.{shape_answer}
-use Rattle.pyramid.proofs.Refusals.{accepted_shape}
+use Rattle.pyramid.proofs.Refusals.{outcome_left}
 use Rattle.pyramid.proofs.shape_nodes.Goals as goal
 
-pub nodes_of-requires : goal.nodes_of-requires
-nodes_of-requires c = λ none. accepted_shape _ (sym c.shape_refusal.ensures ∙ none)
+pub returns-in_err-shape : goal.returns-in_err-shape
+unfolding shape_answer
+returns-in_err-shape c = passed_on _ _ _ c.from_residual.result _ c.from_residual.ensures.1 c.in_err-shape.ensures (λ _. refl)
 
 pub returns : goal.returns
 unfolding shape_answer
-returns c = c.nodes_of.ensures ∙ rw c.shape_refusal.ensures
+returns c =
+    let e = sym c.in_ok-shape.ensures in
+    rw (outcome_left, c.nodes.ensures, value-is _ _ e) (accepts _ (none _ _ e))

@@ -1,12 +1,18 @@
--- `pyramid::total_nodes` meets its contract: accepted settings are lawful. Assumes nothing.
-use mathlib.Core.Path.{sym, ◌∙◌}
+-- `pyramid::total_nodes` meets its contract: T is counted where settings are accepted. Assumes nothing.
+use mathlib.Core.Path.{◌≡◌, refl, sym, ap, ◌∙◌, subst}
+use Rattle.refusals.specs.Definitions.Outcomes.{outcome}
+use Rattle.refusals.proofs.Outcomes.{refuses, accepts, none, value-is, passed_on}
+use Rattle.pyramid.specs.Definitions.Sizes.{total}
 use Rattle.pyramid.specs.Definitions.Answers.{nodes_answer}
-use Rattle.pyramid.proofs.Refusals.{accepted_settings}
+use Rattle.pyramid.proofs.Refusals.{outcome_left}
 use Rattle.pyramid.proofs.total_nodes.Goals as goal
 
-pub nodes_of-requires : goal.nodes_of-requires
-nodes_of-requires c = λ none. (accepted_settings _ (sym c.settings_refusal.ensures ∙ none)).shaped
+pub returns-in_err-lawful : goal.returns-in_err-lawful
+unfolding nodes_answer
+returns-in_err-lawful c = passed_on _ _ _ c.from_residual.result _ c.from_residual.ensures.1 c.in_err-lawful.ensures (λ _. refl)
 
 pub returns : goal.returns
 unfolding nodes_answer
-returns c = c.nodes_of.ensures ∙ rw c.settings_refusal.ensures
+returns c =
+    let e = sym c.in_ok-lawful.ensures in
+    rw (outcome_left, c.nodes.ensures, c.shape.ensures, value-is _ _ e) (accepts _ (none _ _ e))

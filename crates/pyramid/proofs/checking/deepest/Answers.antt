@@ -4,4 +4,4 @@ use Rattle.pyramid.proofs.Depth.{deepest_counts}
 use Rattle.pyramid.proofs.checking.deepest.Goals as goal
 
 pub returns : goal.returns
-returns c = c.lesser-d.ensures ∙ rw c.lesser.ensures (sym (deepest_counts _ _))
+returns c = c.min-2.ensures ∙ rw c.min.ensures (sym (deepest_counts _ _))

@@ -1,0 +1,35 @@
+-- `pyramid::checking::check_shape` meets its contract: one comparison with the deepest depth passes three rules. Assumes nothing.
+use mathlib.Core.Path.{◌≡◌, sym, ap, ◌∙◌}
+use Rattle.refusals.proofs.Outcomes.{refuses, accepts, none, value-is, passed_on}
+use mathlib.Core.Bool.{true}
+use mathlib.Core.List.{[], ◌∷◌}
+use Prim.Native.Nat.{ℕ, ◌≤◌}
+use Rattle.refusals.specs.declared.Refusal.TheVariants.{Size, Kernel}
+use Rattle.pyramid.specs.declared.Settings.{Settings}
+use Rattle.pyramid.specs.Definitions.Settings.{size_ok, kernel_ok}
+use Rattle.pyramid.specs.Definitions.Refusals.{unless, first, shape_refusal}
+use Rattle.pyramid.proofs.Refusals.{first_nil, answers_fails, answers_passes}
+use Rattle.pyramid.proofs.SettingsTests.{size_positive}
+use Rattle.pyramid.proofs.ShapeRefusals.{depth_passes}
+use Rattle.pyramid.proofs.checking.check_shape.Goals as goal
+
+pub returns-then-not-size_ok : goal.returns-then-not-size_ok
+unfolding shape_refusal
+returns-then-not-size_ok c = refuses tt Size (answers_fails {number = 0} _ (sym c.if-not-size_ok.ensures))
+
+pub deepest-requires : goal.deepest-requires
+deepest-requires c = size_positive _ _ (sym c.if-not-size_ok.ensures)
+
+pub depth_refusal-requires : goal.depth_refusal-requires
+depth_refusal-requires c = (sym c.if-not-size_ok.ensures, rw c.deepest.ensures at c.if-deepest-s.true)
+
+pub returns-then-deepest-s : goal.returns-then-deepest-s
+returns-then-deepest-s c = refuses tt _ c.depth_refusal.ensures
+
+pub returns-else-kernel_ok : goal.returns-else-kernel_ok
+returns-else-kernel_ok c =
+    refuses tt Kernel (depth_passes _ (sym c.if-not-size_ok.ensures) (rw c.deepest.ensures at c.if-deepest-s.false) (answers_fails {number = 1} _ (sym c.if-kernel_ok.ensures)))
+
+pub returns-then-kernel_ok : goal.returns-then-kernel_ok
+returns-then-kernel_ok c =
+    accepts tt (sym (depth_passes _ (sym c.if-not-size_ok.ensures) (rw c.deepest.ensures at c.if-deepest-s.false) (sym first_nil ∙ answers_passes 2 _ (sym c.if-kernel_ok.ensures))))

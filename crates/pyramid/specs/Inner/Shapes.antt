@@ -1,0 +1,14 @@
+-- The settings of what is known to be lawful. Assumes nothing.
+use Rattle.std.specs.Prelude.{Result, Ok, Err}
+use Rattle.refusals.specs.declared.Refusal.{Refusal}
+use Rattle.pyramid.specs.declared.Settings.{Settings}
+use Rattle.pyramid.specs.declared.shapes.Shape.{Shape}
+use Rattle.pyramid.specs.declared.shapes.LawfulSettings.{LawfulSettings}
+
+abbrev pub shape_settings : Result Shape Refusal → Result Settings Refusal
+shape_settings (Ok shape) = Ok shape.settings
+shape_settings (Err refusal) = Err refusal
+
+abbrev pub lawful_settings : Result LawfulSettings Refusal → Result Settings Refusal
+lawful_settings (Ok lawful) = Ok lawful.settings
+lawful_settings (Err refusal) = Err refusal
