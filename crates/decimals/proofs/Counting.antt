@@ -9,6 +9,8 @@ use native.Mathlib.Omega.{arith}
 use borrow.Author.Tests.{le-leb, lt-leb}
 use lib.Dec.{leb, ltb, leb→le}
 use lib.ListN.{length, set, length-append, length-map}
+use Rattle.std.proofs.Common.{Option, Some, None}
+use Rattle.std.specs.Option.{unwrap_or}
 use Rattle.mathematics.specs.Inner.Splices.{splice}
 use Rattle.mathematics.proofs.Tests.{cond_elim}
 use Rattle.mathematics.proofs.Splices.{splice_nil, splice-set, splice_prepend}
@@ -89,27 +91,27 @@ module _ (n end : ℕ) (l : List ℕ) (count : length (decimal n) ≤ end) (room
 
 -- where there is room, and where there is none
 module _ (n at : ℕ) (l : List ℕ) where
-  abbrev pub Put : ℕ → List ℕ → Type 0
+  abbrev pub Put : Option ℕ → List ℕ → Type 0
   Put count w =
-      (count ≡ cond (has_room at (decimal n) l) (length (decimal n)) 0) × (w ≡ cond (has_room at (decimal n) l) (text_at at (decimal n) l) l)
+      (count ≡ cond (has_room at (decimal n) l) (Some (length (decimal n))) None) × (w ≡ cond (has_room at (decimal n) l) (text_at at (decimal n) l) l)
 
-  pub put_nothing : length l < at + length (decimal n) → Put 0 l
+  pub put_nothing : length l < at + length (decimal n) → Put None l
   unfolding has_room
   put_nothing h = rw (lt-leb _ _ h) (refl, refl)
 
-  pub put_all : {w : List ℕ} {count : ℕ} → at + length (decimal n) ≤ length l → count ≡ length (decimal n) → w ≡ splice (at + count - length (decimal n)) (decimal n) l → Put count w
+  pub put_all : {w : List ℕ} {count : ℕ} → at + length (decimal n) ≤ length l → count ≡ length (decimal n) → w ≡ splice (at + count - length (decimal n)) (decimal n) l → Put (Some count) w
   unfolding has_room splice
   put_all {w} {count} h e p =
       let f : at + count - length (decimal n) ≡ at = omega arith in
-      rw (le-leb _ _ h) (e, rw f at p)
+      rw (le-leb _ _ h) (ap Some e, rw f at p)
 
   -- what was put, where there is room
-  pub put_room : {w : List ℕ} {count : ℕ} → at + length (decimal n) ≤ length l → Put count w → (count ≡ length (decimal n)) × (w ≡ splice at (decimal n) l)
+  pub put_room : {w : List ℕ} {count : Option ℕ} → at + length (decimal n) ≤ length l → Put count w → (count ≡ Some (length (decimal n))) × (w ≡ splice at (decimal n) l)
   unfolding has_room splice
   put_room h p = rw (le-leb _ _ h) at p
 
   -- what was put lies inside the buffer
-  pub put_inside : {w : List ℕ} {count : ℕ} → Put count w → count ≤ length l
+  pub put_inside : {w : List ℕ} {count : Option ℕ} → Put count w → unwrap_or count 0 ≤ length l
   unfolding has_room
   put_inside p =
-      rw p.0 (cond_elim (leb (at + length (decimal n)) (length l)) (length (decimal n)) 0 (λ c. c ≤ length l) (λ t. omega (arith, leb→le (at + length (decimal n)) (length l) t)) (λ t. omega arith))
+      rw p.0 (cond_elim (leb (at + length (decimal n)) (length l)) (Some (length (decimal n))) None (λ c. unwrap_or c 0 ≤ length l) (λ t. omega (arith, leb→le (at + length (decimal n)) (length l) t)) (λ t. omega arith))

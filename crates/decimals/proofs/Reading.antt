@@ -1,145 +1,169 @@
 -- A number read digit by digit: each turn of the loop takes the next digit, until there is none or there are enough. Assumes nothing.
-use mathlib.Core.Path.{◌≡◌, refl, ◌∙◌}
+use mathlib.Core.Path.{◌≡◌, refl, sym, ap, ◌∙◌}
 use mathlib.Core.Logic.{◌⊎◌, inl, inr}
-use mathlib.Core.Bool.{Bool, true, false, cond, ◌&&◌}
+use mathlib.Core.Bool.{true, false, cond}
 use mathlib.Core.List.{List, [], ◌∷◌}
 use Prim.Native.Nat.{ℕ, zero, suc, ◌+◌, ◌-◌, ◌*◌, ◌^◌, ◌≤◌, ◌<◌, min}
-use native.Mathlib.Nat.{add-zero, sub-zero, pow-zero, pow-suc, pow-le-pow_right}
-use native.Mathlib.Decide.{dec_le, dec_lt}
+use native.Mathlib.Nat.{sub-zero, pow-zero, pow-suc, pow-le-pow_right}
 use native.Mathlib.Numerals.{add-one}
 use native.Mathlib.Omega.{arith}
-use borrow.Author.Tests.{le-leb, lt-leb}
-use lib.Dec.{leb}
-use lib.ListN.{length, get_or, drop, length-drop, drop_of_length-le, get_or-eq_default}
+use lib.ListN.{length, get_or, take, drop, length-drop, drop_of_length-le}
 use lib.Seq.{drop-cons}
+use Rattle.std.proofs.Common.{Bor, Option, Some, None}
+use Rattle.std.proofs.lemmas.List.{take_all, length-take}
+use Rattle.std.specs.List.{slice_range}
+use Rattle.std.specs.Option.{MatchOption, unwrap_or}
 use Rattle.mathematics.proofs.Tests.{cond_elim}
+use Rattle.decimals.specs.declared.Number.{Number}
 use Rattle.decimals.specs.Definitions.Digits.{value}
-use Rattle.decimals.specs.Definitions.Text.{is_digit, leading_digits, number_at}
-use Rattle.decimals.specs.Inner.DigitAt.{digit_at}
+use Rattle.decimals.specs.Definitions.Text.{is_digit, leading_digits, number_at, number_found}
 
--- ---- the digit at a place
+-- ---- the digits of a text's first bytes
 
-module _ (text : List ℕ) (at : ℕ) where
-  pub digit_is : 48 ≤ get_or text at 0 → get_or text at 0 ≤ 57 → get_or text at 0 - 48 ≡ digit_at text at
-  unfolding digit_at is_digit
-  digit_is low high = rw (le-leb _ _ low, le-leb _ _ high)
+-- the text cut to the most that are asked for has the same ones
+leading_cut : (most : ℕ) (text : List ℕ) → leading_digits (length (take most text)) (take most text) ≡ leading_digits most text
+unfolding leading_digits
+leading_cut zero text = refl
+leading_cut (suc most) [] = refl
+leading_cut (suc most) (b ∷ text) = ap (λ (ds : List ℕ). cond (is_digit b) ((b - 48) ∷ ds) []) (leading_cut most text)
 
-  pub digit_below : get_or text at 0 < 48 → 10 ≡ digit_at text at
-  unfolding digit_at is_digit
-  digit_below low = rw (lt-leb _ _ low)
+digit_below : (b : ℕ) → is_digit b ≡ true → b - 48 < 10
+unfolding is_digit
+digit_below b t = grind arith
 
-  pub digit_above : 48 ≤ get_or text at 0 → 57 < get_or text at 0 → 10 ≡ digit_at text at
-  unfolding digit_at is_digit
-  digit_above low high = rw (le-leb _ _ low, lt-leb _ _ high)
-
-  pub digit_past : length text ≤ at → 10 ≡ digit_at text at
-  unfolding digit_at is_digit
-  digit_past h = rw (get_or-eq_default text 0 {n = at} h)
-
-  -- ---- what is known where there is one, and where there is none
-
-  pub digit_inside : digit_at text at < 10 → at < length text
-  digit_inside h = cases (dec_lt at (length text))
-    where
-      cases : Dec (at < length text) → at < length text
-      cases (yes k) = k
-      cases (no k) = absurd (omega (arith, digit_past (omega arith)))
-
-  tested : digit_at text at < 10 → is_digit (get_or text at 0) ≡ true
-  unfolding digit_at
-  tested h = by_test (is_digit (get_or text at 0)) h
-    where
-      by_test : (t : Bool) → cond t (get_or text at 0 - 48) 10 < 10 → t ≡ true
-      by_test true k = refl
-      by_test false k = absurd (omega arith)
-
-  untested : 10 ≤ digit_at text at → is_digit (get_or text at 0) ≡ false
-  unfolding digit_at is_digit
-  untested h = by_tests (dec_le 48 (get_or text at 0)) (dec_le (get_or text at 0) 57)
-    where
-      by_tests : Dec (48 ≤ get_or text at 0) → Dec (get_or text at 0 ≤ 57) → leb 48 (get_or text at 0) && leb (get_or text at 0) 57 ≡ false
-      by_tests (no low) high = rw (lt-leb 48 (get_or text at 0) (omega arith))
-      by_tests (yes low) (no high) = rw (le-leb 48 (get_or text at 0) low, lt-leb (get_or text at 0) 57 (omega arith))
-      by_tests (yes low) (yes high) = absurd (omega (arith, digit_is low high))
-
-  pub leading_next : (most : ℕ) → digit_at text at < 10 → leading_digits (suc most) (drop at text) ≡ digit_at text at ∷ leading_digits most (drop (suc at) text)
-  unfolding leading_digits digit_at
-  leading_next most h = rw (drop-cons text at 0 (digit_inside h), tested h)
-
-  pub leading_none : (most : ℕ) → 10 ≤ digit_at text at → leading_digits most (drop at text) ≡ []
+module _ (text : List ℕ) (at : ℕ) (inside : at < length text) (most : ℕ) where
+  leading_next : is_digit (get_or text at 0) ≡ true → leading_digits (suc most) (drop at text) ≡ (get_or text at 0 - 48) ∷ leading_digits most (drop (suc at) text)
   unfolding leading_digits
-  leading_none zero h = refl
-  leading_none (suc most) h = cases (dec_lt at (length text))
-    where
-      cases : Dec (at < length text) → leading_digits (suc most) (drop at text) ≡ []
-      cases (yes k) = rw (drop-cons text at 0 k, untested h)
-      cases (no k) = rw (drop_of_length-le text {i = at} (omega arith))
+  leading_next t = rw (drop-cons text at 0 inside, t)
 
--- ---- the loop: so many digits are read, and have this value
+  leading_stop : is_digit (get_or text at 0) ≡ false → leading_digits (suc most) (drop at text) ≡ []
+  unfolding leading_digits
+  leading_stop t = rw (drop-cons text at 0 inside, t)
 
-pub record Reading (text : List ℕ) (at limit read count digit : ℕ) : Type 0 where
-  pub bound : count ≤ limit
-  pub small : read < 10 ^ count
-  pub next : digit ≡ digit_at text (at + count)
-  pub counted : length (leading_digits limit (drop at text)) ≡ count + length (leading_digits (limit - count) (drop (at + count) text))
-  pub valued : value (leading_digits limit (drop at text))
-      ≡ read * 10 ^ length (leading_digits (limit - count) (drop (at + count) text)) + value (leading_digits (limit - count) (drop (at + count) text))
+-- ---- the loop over a text's first bytes: so many are digits, with this value
 
-pub reading_start : (text : List ℕ) (at limit : ℕ) {digit : ℕ} → digit ≡ digit_at text at → Reading text at limit 0 0 digit
-reading_start text at limit e =
+pub record Reading (text : List ℕ) (count : ℕ) (n : Number) : Type 0 where
+  pub digits : n.digits ≡ count
+  pub small : n.value < 10 ^ count
+  pub counted : length (leading_digits (length text) text) ≡ count + length (leading_digits (length text - count) (drop count text))
+  pub valued : value (leading_digits (length text) text)
+      ≡ n.value * 10 ^ length (leading_digits (length text - count) (drop count text)) + value (leading_digits (length text - count) (drop count text))
+
+pub reading_start : (text : List ℕ) → Reading text 0 (record { value = 0; digits = 0 })
+reading_start text =
     record {
-      bound = omega arith;
+      digits = refl;
       small = rw (pow-zero 10) (omega arith);
-      next = rw (add-zero at) e;
-      counted = rw (add-zero at, sub-zero limit) (omega arith);
-      valued = rw (add-zero at, sub-zero limit) (omega arith);
+      counted = rw (sub-zero (length text)) (omega arith);
+      valued = rw (sub-zero (length text)) (omega arith);
     }
 
-module _ {text : List ℕ} {at limit read count digit : ℕ} (r : Reading text at limit read count digit) where
+module _ {text : List ℕ} {count : ℕ} {n : Number} (r : Reading text count n) where
   -- ten times the value, and the digit
   horner : (v d p w : ℕ) → v * (p * 10) + (d * p + w) ≡ (10 * v + d) * p + w
   horner v d p w = omega arith
 
-  module _ (more : count < limit) (h : digit < 10) where
-    here : digit_at text (at + count) < 10
-    here = rw (← r.next) h
-
-    pub reading_inside : at + count < length text
-    reading_inside = digit_inside text (at + count) here
-
-    step : leading_digits (limit - count) (drop (at + count) text) ≡ digit ∷ leading_digits (limit - (count + 1)) (drop (at + (count + 1)) text)
+  module _ (more : count < length text) (t : is_digit (get_or text count 0) ≡ true) where
+    step : leading_digits (length text - count) (drop count text) ≡ (get_or text count 0 - 48) ∷ leading_digits (length text - (count + 1)) (drop (count + 1) text)
     step =
-        let e : limit - count ≡ suc (limit - (count + 1)) = omega arith in
-        let f : suc (at + count) ≡ at + (count + 1) = omega arith in
-        rw (e, r.next, ← f) (leading_next text (at + count) (limit - (count + 1)) here)
+        let e : length text - count ≡ suc (length text - (count + 1)) = omega arith in
+        rw (e, add-one count) (leading_next text count more (length text - suc count) t)
 
-    pub reading_next : {d : ℕ} → d ≡ digit_at text (at + (count + 1)) → Reading text at limit (10 * read + digit) (count + 1) d
-    unfolding value
-    reading_next e =
+    pub reading_next : Reading text (count + 1) (record { value = 10 * n.value + (get_or text count 0 - 48); digits = n.digits + 1 })
+    unfolding value is_digit
+    reading_next =
         record {
-          bound = omega arith;
-          small = let s = r.small in rw (add-one count, pow-suc 10 count) (omega arith);
-          next = e;
+          digits = ap (λ (k : ℕ). k + 1) r.digits;
+          small = let s = r.small in let d = digit_below (get_or text count 0) t in rw (add-one count, pow-suc 10 count) (omega arith);
           counted = r.counted ∙ rw step (omega arith);
-          valued = r.valued ∙ rw (step, pow-suc 10) (horner read digit _ _);
+          valued = r.valued ∙ rw (step, pow-suc 10) (horner n.value (get_or text count 0 - 48) _ _);
         }
 
-    pub reading_small : limit ≤ 9 → 10 * read + digit < 10 ^ 9
-    reading_small k =
-        let p : 10 ^ count ≤ 10 ^ 8 = pow-le-pow_right {n = 10} (omega arith) {i = count} {j = 8} (omega arith) in
-        omega (arith, r.small, p)
+    pub reading_fits : length text ≤ 9 → 10 * n.value + (get_or text count 0 - 48) < 10 ^ 9
+    reading_fits k =
+        let p : 10 ^ (count + 1) ≤ 10 ^ 9 = pow-le-pow_right {n = 10} (omega arith) {i = count + 1} {j = 9} (omega arith) in
+        omega (arith, reading_next.small, p)
 
-  none : (limit ≤ count) ⊎ (10 ≤ digit) → leading_digits (limit - count) (drop (at + count) text) ≡ []
+  -- no digit is left
+  ended : leading_digits (length text - count) (drop count text) ≡ [] → record { value = value (leading_digits (length text) text); digits = length (leading_digits (length text) text) } ≡ n
+  unfolding value
+  ended none =
+      let v : value (leading_digits (length text) text) ≡ n.value = r.valued ∙ rw (none, pow-zero 10) (omega arith) in
+      let d : length (leading_digits (length text) text) ≡ n.digits = r.counted ∙ rw (none, r.digits) (omega arith) in
+      rw (v, d)
+
+  none_left : length text ≤ count → leading_digits (length text - count) (drop count text) ≡ []
   unfolding leading_digits
-  none (inl h) = let e : limit - count ≡ 0 = omega arith in rw e
-  none (inr h) = leading_none text (at + count) (limit - count) (rw (← r.next) h)
+  none_left h = let e : length text - count ≡ 0 = omega arith in rw e
 
-  pub reading_end : (most : ℕ) → limit ≡ min most 9 → (limit ≤ count) ⊎ (10 ≤ digit) → record { value = read; digits = count } ≡ number_at text at most
-  unfolding number_at value
-  reading_end most e h =
-      let v : value (leading_digits limit (drop at text)) ≡ read = r.valued ∙ rw (none h, pow-zero 10) (omega arith) in
-      let n : length (leading_digits limit (drop at text)) ≡ count = r.counted ∙ rw (none h) (omega arith) in
-      rw (← e, v, n)
+  no_digit : count < length text → is_digit (get_or text count 0) ≡ false → leading_digits (length text - count) (drop count text) ≡ []
+  no_digit h t = let e : length text - count ≡ suc (length text - suc count) = omega arith in rw e (leading_stop text count h (length text - suc count) t)
+
+-- ---- what is read is the number at the place
+
+-- the text's first bytes from a place on, no more than so many: all of them where there are no more
+pub record Front (text : List ℕ) (at most : ℕ) (front : List ℕ) : Type 0 where
+  pub is : front ≡ take (min most 9) (drop at text)
+
+pub front_of : (text : List ℕ) (at most limit : ℕ) (rest : Bor (List ℕ)) (o : Option (Bor (List ℕ))) → limit ≡ min most 9 → rest.now ≡ take (length text - at) (drop at text)
+    → MatchOption o ((limit < 0) ⊎ (length rest.now < limit)) (λ x. (0 ≤ limit) × (limit ≤ length rest.now) × (x.now ≡ slice_range rest.now 0 limit) × (length x.now + 0 ≡ limit))
+    → Front text at most (unwrap_or o rest).now
+front_of text at most limit rest o e r m = go o m
+  where
+    all : rest.now ≡ drop at text
+    all = r ∙ take_all (length text - at) (drop at text) (omega (arith, length-drop at text))
+
+    go : (o : Option (Bor (List ℕ))) → MatchOption o ((limit < 0) ⊎ (length rest.now < limit)) (λ x. (0 ≤ limit) × (limit ≤ length rest.now) × (x.now ≡ slice_range rest.now 0 limit) × (length x.now + 0 ≡ limit))
+        → Front text at most (unwrap_or o rest).now
+    go None short =
+        let le : length rest.now ≤ limit = elim short [ inl h ↦ omega arith | inr h ↦ omega arith ] in
+        record { is = all ∙ sym (take_all (min most 9) (drop at text) (rw (← all, ← e) le)) }
+    go (Some x) m = record { is = m.2 ∙ rw (sub-zero limit, e, all) }
+
+module _ {text front : List ℕ} {at most : ℕ} (f : Front text at most front) where
+  found_in : leading_digits (length front) front ≡ leading_digits (min most 9) (drop at text)
+  found_in = rw f.is (leading_cut (min most 9) (drop at text))
+
+  pub front_short : length front ≤ 9
+  front_short = rw (f.is, length-take) (omega arith)
+
+  number_is : {count : ℕ} {n : Number} → Reading front count n → (length front ≤ count) ⊎ ((count < length front) × (is_digit (get_or front count 0) ≡ false)) → number_at text at most ≡ n
+  unfolding number_at
+  number_is r (inl h) = rw (← found_in) (ended r (none_left r h))
+  number_is r (inr h) = rw (← found_in) (ended r (no_digit r h.0 h.1))
+
+-- a number without digits is none
+pub found_none : (n : Number) → n.digits ≡ 0 → None ≡ number_found n
+unfolding number_found
+found_none n e = rw e
+
+found_some : (n : Number) → (n.digits ≡ 0 → ⊥) → Some n ≡ number_found n
+unfolding number_found
+found_some n e = grind arith
+
+-- past the end there is none
+abbrev pub none_there : Number
+none_there = record { value = 0; digits = 0 }
+
+pub number_past : (text : List ℕ) (at most : ℕ) → length text ≤ at → number_at text at most ≡ none_there
+unfolding number_at leading_digits value
+number_past text at most h = rw (drop_of_length-le text {i = at} h) (past (min most 9))
+  where
+    past : (limit : ℕ) → record { value = value (leading_digits limit []); digits = length (leading_digits limit []) } ≡ none_there
+    past zero = refl
+    past (suc limit) = refl
+
+-- what the loop keeps, and what is answered after it: where the bytes end, or at a byte that is no digit
+pub record Reads (text : List ℕ) (at most : ℕ) (rest : List ℕ) (count : ℕ) (n : Number) : Type 0 where
+  pub front : Front text at most rest
+  pub so_far : Reading rest count n
+
+module _ {text rest : List ℕ} {at most count : ℕ} {n : Number} (r : Reads text at most rest count n) (end : (length rest ≤ count) ⊎ ((count < length rest) × (is_digit (get_or rest count 0) ≡ false))) where
+  pub read_none : n.digits ≡ 0 → None ≡ number_found (number_at text at most)
+  read_none e = rw (number_is r.front r.so_far end) (found_none n e)
+
+  pub read_some : (n.digits ≡ 0 → ⊥) → Some n ≡ number_found (number_at text at most)
+  read_some e = rw (number_is r.front r.so_far end) (found_some n e)
 
 -- ---- a number does not reach past the end
 

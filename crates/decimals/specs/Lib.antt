@@ -1,3 +1,2 @@
 pub mod Definitions
-pub mod Inner
 pub mod Checks

@@ -1,10 +1,9 @@
 // Numbers in decimal (document 02, P2), for every text that is read or written.
 #![tactic(auto)]
 
-ghost use Rattle.std.specs.Prelude.{◌≡◌, cond, ◌+◌, ◌-◌, ◌≤◌, min, length};
+ghost use Rattle.std.specs.Prelude.{◌≡◌, cond, ◌+◌, ◌-◌, ◌≤◌, length};
 ghost use Rattle.mathematics.specs.Inner.Splices.{splice};
-ghost use Rattle.decimals.specs.Definitions.Text.{decimal, text_at, has_room, number_at};
-ghost use Rattle.decimals.specs.Inner.DigitAt.{digit_at};
+ghost use Rattle.decimals.specs.Definitions.Text.{decimal, text_at, has_room, number_at, number_found};
 
 // A number that a text begins with: its value, and how many digits it has.
 #[derive(Clone, Copy)]
@@ -38,60 +37,41 @@ fn put_digits(n: u32, buffer: &mut [u8], end: usize)
     }
 }
 
-// Writes a number in a buffer from a place on, and answers how many digits it has; 0 where it has no room there.
-pub fn put_decimal(n: u32, buffer: &mut [u8], at: usize) -> usize
-    ensures value { result ≡ cond (has_room at (decimal n) buffer.old) (length (decimal n)) 0 }
+// Writes a number in a buffer from a place on, and answers how many digits it has; `None` where it has no room there.
+pub fn put_decimal(n: u32, buffer: &mut [u8], at: usize) -> Option<usize>
+    ensures value { result ≡ cond (has_room at (decimal n) buffer.old) (Some (length (decimal n))) None }
     ensures buffer_after { buffer.new ≡
         cond (has_room at (decimal n) buffer.old) (text_at at (decimal n) buffer.old)
         buffer.old }
 {
     let count = digit_count(n);
-    if buffer.len() < count {
-        return 0;
-    }
-    if buffer.len() - count < at {
-        return 0;
+    if buffer.len() < count || buffer.len() - count < at {
+        return None;
     }
     put_digits(n, buffer, at + count);
-    count
+    Some(count)
 }
 
-// The digit at a place, and 10 where there is none.
-fn digit_at(text: &[u8], at: usize) -> u8
-    ensures { result ≡ digit_at text.now at }
+// The number of at most so many digits, and never more than nine, that begins at a place; `None` where no digit stands there.
+pub fn number_at(text: &[u8], at: usize, most: usize) -> Option<Number>
+    ensures { result ≡ number_found (number_at text.now at most) }
 {
-    if at < text.len() {
-        let b = text[at];
-        if 48 <= b {
-            if b <= 57 {
-                return b - 48;
-            }
+    let rest = text.get(at..)?;
+    let rest = rest.get(..most.min(9)).unwrap_or(rest);
+    let mut number = Number {
+        value: 0,
+        digits: 0,
+    };
+    for byte in rest {
+        if !byte.is_ascii_digit() {
+            break;
         }
+        number.value = 10 * number.value + (byte - b'0') as u32;
+        number.digits += 1;
     }
-    10
-}
-
-fn lesser(a: usize, b: usize) -> usize
-    ensures { result ≡ min a b }
-{
-    if a <= b { a } else { b }
-}
-
-// The number of at most so many digits, and never more than nine, that begins at a place.
-pub fn number_at(text: &[u8], at: usize, most: usize) -> Number
-    ensures { result ≡ number_at text.now at most }
-{
-    let limit = lesser(most, 9);
-    let mut value: u32 = 0;
-    let mut count = 0;
-    let mut digit = digit_at(text, at);
-    while count < limit && digit < 10 {
-        value = 10 * value + digit as u32;
-        count += 1;
-        digit = digit_at(text, at + count);
-    }
-    Number {
-        value: value,
-        digits: count,
+    if number.digits == 0 {
+        None
+    } else {
+        Some(number)
     }
 }

@@ -13,7 +13,7 @@ fn text<W: Write>(out: &mut W, bytes: &[u8]) -> io::Result<()> {
 // Text, and a number in decimal after it.
 fn number<W: Write>(out: &mut W, word: &[u8], n: u32) -> io::Result<()> {
     let mut digits = [0; 10];
-    let count = decimals::put_decimal(n, &mut digits, 0);
+    let count = decimals::put_decimal(n, &mut digits, 0).unwrap_or(0);
     text(out, word)?;
     text(out, &digits[..count])
 }

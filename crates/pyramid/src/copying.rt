@@ -42,9 +42,9 @@ pub fn index_row(averages: &[i32], predicted: &[i32], bin: u16, levels: &mut [i1
         (λ i. bin_index (get_or averages.now i (pos 0) -ℤ get_or predicted.now i (pos 0)) bin))
         levels.old }
 {
-    let factor = quantizer::reciprocal(bin);
+    let rule = quantizer::Bin::new(bin);
     for (i, &average) in averages.iter().enumerate() {
-        levels[at + i] = quantizer::bin_index(average - predicted[i], bin, factor) as i16;
+        levels[at + i] = rule.index(average - predicted[i]) as i16;
     }
 }
 

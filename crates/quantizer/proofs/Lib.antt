@@ -1,3 +1,5 @@
 pub mod Rounding
 pub mod Bins
+pub mod Reciprocals
 pub mod Division
+pub mod Multiplication

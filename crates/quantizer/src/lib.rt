@@ -1,21 +1,21 @@
 // Rounding and the bin rule (document 01, "Pyramid steps"), for 32-bit sums and values and 16-bit divisors and bins.
 #![tactic(auto)]
 
-ghost use Rattle.std.specs.Prelude.{◌≡◌, true, false, ◌≤◌, ◌<◌, pos, nat_abs, ◌+ℤ◌};
+ghost use Rattle.std.specs.Prelude.{◌≡◌, ℕ, ◌≤◌, ◌<◌, ◌↔◌, IsTrue, pos, nat_abs, ◌+ℤ◌};
 ghost use Rattle.quantizer.specs.Definitions.Rounding.{round_div};
 ghost use Rattle.quantizer.specs.Definitions.Bins.{bin_index};
 ghost use Rattle.quantizer.specs.Inner.Division.{Floor};
 ghost use Rattle.quantizer.specs.Definitions.Reciprocals.{reciprocal};
 ghost use Rattle.quantizer.specs.Inner.Factors.{ReciprocalFactor};
 
-// The largest whole number not above (x + h) / d. 2^31 divisors are added, so that what is divided is not negative, and taken off again.
+use std::marker::Model;
+
+// The largest whole number not above (x + h) / d.
 fn divide(x: i32, h: u16, d: u16) -> i32
     requires { h < d }
     ensures { Floor (x +ℤ pos h) (pos d) result }
 {
-    let raised = (x as i64 + h as i64 + d as i64 * 2147483648) as u64;
-    let quotient = (raised / d as u64) as i64;
-    (quotient - 2147483648) as i32
+    (x as i64 + h as i64).div_euclid(d as i64) as i32
 }
 
 // The largest whole number not above sum / divisor + 1/2. Over 0 it is 0.
@@ -40,43 +40,75 @@ pub fn reciprocal(bin: u16) -> u32
 
 // Whether a multiplication by the factor can stand for a division by the bin.
 fn is_reciprocal(bin: u16, factor: u32) -> bool
-    ensures { (result ≡ true → ReciprocalFactor bin factor) × (result ≡ false → ReciprocalFactor bin factor → ⊥) }
+    ensures { IsTrue result ↔ ReciprocalFactor bin factor }
 {
-    if bin < 256 {
-        let product = factor as u64 * bin as u64;
-        if 2147483648 < product {
-            return product <= 2147483648 + bin as u64;
+    let product = factor as u64 * bin as u64;
+    bin < 256 && 2147483648 < product && product <= 2147483648 + bin as u64
+}
+
+// A bin of this width, with its reciprocal: contracts see the width.
+#[derive(Clone, Copy)]
+pub struct Bin {
+    width: u16,
+    factor: u32,
+}
+
+impl Model for Bin {
+    ghost Value = { ℕ };
+
+    ghost view = { λ b. b.width };
+
+    ghost invariant = { λ b. b.factor ≡ reciprocal b.width };
+
+    ghost inverse = { λ n. record { width = n; factor = reciprocal n } };
+}
+
+impl Bin {
+    pub fn new(width: u16) -> Self
+        ensures { result ≡ width }
+    {
+        Bin {
+            width,
+            factor: reciprocal(width),
         }
     }
-    false
+
+    // The same as `divide` by the width, by a multiplication. 8,192 widths are added, so that what is multiplied is not negative, and taken off again.
+    fn multiply(self, x: i32, h: u16) -> i32
+        requires short { (h < self) × (self < 256) }
+        requires near { nat_abs x ≤ 8192 }
+        ensures { Floor (x +ℤ pos h) (pos self) result }
+    {
+        let raised = (x + h as i32 + self.width as i32 * 8192) as u64;
+        let quotient = raised * self.factor as u64 / 2147483648;
+        quotient as i32 - 8192
+    }
+
+    // The index m of a value: (2m - 1) * width < 2 * value <= (2m + 1) * width. At width 0 it is 0. The reciprocal saves a division for values
+    // within 8,192 of 0.
+    pub fn index(self, value: i32) -> i32
+        ensures { result ≡ bin_index value self }
+    {
+        if self.width == 0 {
+            return 0;
+        }
+        let h = (self.width - 1) / 2;
+        if self.width < 256 && -8192 <= value && value <= 8192 {
+            self.multiply(value, h)
+        } else {
+            divide(value, h, self.width)
+        }
+    }
 }
 
-// The same as `divide`, by a multiplication.
-fn multiply(x: i32, h: u16, d: u16, factor: u32) -> i32
-    requires h_lt_d { (h < d) × (nat_abs x ≤ 8192) }
-    requires reciprocal_factor { ReciprocalFactor d factor }
-    ensures { Floor (x +ℤ pos h) (pos d) result }
-{
-    let raised = (x + h as i32 + d as i32 * 8192) as u64;
-    let quotient = raised * factor as u64 / 2147483648;
-    quotient as i32 - 8192
-}
-
-// The index m of a value at a bin: (2m - 1) * bin < 2 * value <= (2m + 1) * bin. At bin 0 it is 0. It does not depend on the factor; the
-// bin's reciprocal saves a division for values within 8,192 of 0.
+// The index of a value at a bin, with a factor made elsewhere: it does not depend on the factor, which may be the bin's reciprocal or not.
 pub fn bin_index(value: i32, bin: u16, factor: u32) -> i32
     ensures { result ≡ bin_index value bin }
 {
-    if bin == 0 {
-        return 0;
-    }
-    let h = (bin - 1) / 2;
     if is_reciprocal(bin, factor) {
-        if -8192 <= value {
-            if value <= 8192 {
-                return multiply(value, h, bin, factor);
-            }
-        }
+        let width = bin;
+        Bin { width, factor }.index(value)
+    } else {
+        Bin::new(bin).index(value)
     }
-    divide(value, h, bin)
 }

@@ -75,14 +75,14 @@ fn is_put(i: u32, buffer: &mut [u8], at: u16) -> bool {
     let n = count(i);
     let digits = digits(i);
     let got = decimals::put_decimal(number(i), buffer, at as usize);
-    got == n && is_left(&digits, n, buffer, at as usize, at as usize + n)
+    got == Some(n) && is_left(&digits, n, buffer, at as usize, at as usize + n)
 }
 
 // The same where it has none.
 fn is_refused(i: u32, buffer: &mut [u8], at: usize) -> bool {
     fillers::fill_bytes(buffer);
     let got = decimals::put_decimal(number(i), buffer, at);
-    got == 0 && fillers::first_changed_byte(buffer, 0) == buffer.len()
+    got.is_none() && fillers::first_changed_byte(buffer, 0) == buffer.len()
 }
 
 // In a buffer of so many bytes, at most 24.

@@ -1,10 +1,13 @@
 // Numbers read in decimal: their values and how many digits they have are worked by hand.
 use test_support::reporting::{Tally, checked, empty};
 
-// A number of at most so many digits at a place of a text.
+// A number of at most so many digits at a place of a text; where there are none, there is no number.
 fn reads(t: Tally, text: &[u8], at: usize, most: usize, value: u32, digits: usize) -> Tally {
-    let got = decimals::number_at(text, at, most);
-    checked(t, got.value == value && got.digits == digits)
+    let is_read = match decimals::number_at(text, at, most) {
+        Some(got) => 0 < digits && got.value == value && got.digits == digits,
+        None => value == 0 && digits == 0,
+    };
+    checked(t, is_read)
 }
 
 // Texts of no digit to five, with no limit, or one of 5 that is not met.

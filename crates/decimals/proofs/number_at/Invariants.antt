@@ -1,10 +1,6 @@
--- What the loop of `decimals::number_at` keeps, and what falls with each turn.
-use Prim.Native.Nat.{◌-◌}
-use Rattle.decimals.proofs.Reading.{Reading}
+-- What the loop of `decimals::number_at` keeps.
+use Rattle.decimals.proofs.Reading.{Reads}
 use Rattle.decimals.proofs.number_at.Given as goal
 
-abbrev pub invariant-loop-count : goal.invariant-loop-count
-invariant-loop-count v = Reading v.text v.at v.limit v.value v.count v.digit
-
-abbrev pub decreases-loop-count : goal.decreases-loop-count
-decreases-loop-count v = v.limit - v.count
+abbrev pub invariant-loop-byte : goal.invariant-loop-byte
+invariant-loop-byte l = Reads l.text l.at l.most l.rest l.byte-index l.number

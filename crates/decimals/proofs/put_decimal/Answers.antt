@@ -1,34 +1,25 @@
 -- `decimals::put_decimal` meets its contract. Assumes nothing.
+use Prim.Native.Nat.{◌+◌, ◌<◌}
 use native.Mathlib.Omega.{arith}
+use lib.ListN.{length}
+use Rattle.decimals.specs.Definitions.Text.{decimal}
 use Rattle.decimals.proofs.Counting.{put_nothing, put_all}
 use Rattle.decimals.proofs.put_decimal.Goals as goal
+use Rattle.decimals.proofs.put_decimal.Goals.{then-buffer-count-via-then-buffer-count, then-buffer-count-via-else-buffer-count+then-buffer-count-2}
 
 pub returns-then-buffer-count : goal.returns-then-buffer-count
 returns-then-buffer-count c =
-    let a = c.args in
-    let e = c.digit_count-count.ensures in let r = put_nothing a.n a.at a.buffer.now (omega arith) in
-    record {
-      value = r.0;
-      buffer_after = r.1;
-    }
-
-pub returns-then-buffer-count-2 : goal.returns-then-buffer-count-2
-returns-then-buffer-count-2 c =
-    let d = c.before.before in
-    let a = d.args in
-    let e = d.digit_count-count.ensures in let r = put_nothing a.n a.at a.buffer.now (omega arith) in
-    record {
-      value = r.0;
-      buffer_after = r.1;
-    }
+    let e = c.digit_count-count.ensures in
+    let short : length c.args.buffer.now < c.args.at + length (decimal c.args.n) =
+    elim c.then-buffer-count.branch [
+      | then-buffer-count-via-then-buffer-count w ↦ omega arith
+      | then-buffer-count-via-else-buffer-count+then-buffer-count-2 w ↦ omega arith
+    ] in
+    let put = put_nothing c.args.n c.args.at c.args.buffer.now short in
+    record { value = put.0; buffer_after = put.1 }
 
 pub returns : goal.returns
 returns c =
-    let p = c.before.before in
-    let d = p.before.before.before.before in
-    let a = d.args in
-    let e = d.digit_count-count.ensures in let r = put_all a.n a.at a.buffer.now (omega arith) e p.put_digits.ensures in
-    record {
-      value = r.0;
-      buffer_after = r.1;
-    }
+    let e = c.digit_count-count.ensures in
+    let put = put_all c.args.n c.args.at c.args.buffer.now (omega arith) e c.put_digits.ensures in
+    record { value = put.0; buffer_after = put.1 }

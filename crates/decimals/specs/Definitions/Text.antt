@@ -1,5 +1,5 @@
 -- Numbers as text (document 02, P2: "in decimal"): digits are the bytes 48 to 57. Assumes nothing.
-use Rattle.std.specs.Prelude.{Bool, cond, ◌&&◌, List, [], ◌∷◌, ◌++◌, map, ℕ, zero, suc, ◌+◌, ◌-◌, min, leb, length, take, drop}
+use Rattle.std.specs.Prelude.{Bool, cond, ◌&&◌, List, [], ◌∷◌, ◌++◌, map, ℕ, zero, suc, ◌+◌, ◌-◌, min, eqb, leb, length, take, drop, Option, Some, None}
 use Rattle.decimals.specs.declared.Number.{Number}
 use Rattle.decimals.specs.Definitions.Digits.{value, digits}
 
@@ -33,3 +33,7 @@ unfoldable pub number_at : List ℕ → (at most : ℕ) → Number
 number_at text at most =
     let found = leading_digits (min most 9) (drop at text) in
     record { value = value found; digits = length found }
+
+-- there is one, unless it has no digit
+unfoldable pub number_found : Number → Option Number
+number_found n = cond (eqb n.digits 0) None (Some n)

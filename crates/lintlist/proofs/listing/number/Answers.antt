@@ -6,6 +6,6 @@ use Rattle.lintlist.proofs.listing.number.Goals as goal
 
 pub slice_bounds-digits-end : goal.slice_bounds-digits-end
 slice_bounds-digits-end g c =
-    let p = c.put_decimal-count in
-    let inside : p.result ≤ 10 = put_inside _ _ _ (p.ensures.value, p.ensures.buffer_after) in
+    let p = c.put_decimal in
+    let inside : c.unwrap_or-count.result ≤ 10 = rw c.unwrap_or-count.ensures (put_inside _ _ _ (p.ensures.value, p.ensures.buffer_after)) in
     omega arith

@@ -11,7 +11,7 @@ pub loop-i-preserved : goal.loop-i-preserved
 loop-i-preserved c =
     let i = c.loop-i.i in
     filling_next c.loop-i.invariant (omega arith) (omega arith)
-    (index_short (c.requires.small i) (c.requires.small_2 i) c.args.bin (c.requires.indices_within.at i (omega arith)) c.bin_index.ensures)
+    (index_short (c.requires.small i) (c.requires.small_2 i) c.args.bin (c.requires.indices_within.at i (omega arith)) (rw c.new-rule.ensures at c.index.ensures))
     (omega arith)
 
 pub returns : goal.returns
