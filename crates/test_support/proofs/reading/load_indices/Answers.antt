@@ -21,4 +21,4 @@ pub shape_of-levels : goal.shape_of-levels
 shape_of-levels c = c.before.loop-i.invariant.long
 
 pub returns : goal.returns
-returns c = let a = c.before.before.before.before.args in filling_end c.before.loop-i.invariant c.loop-i-test.false ∙ ap (λ (n : ℕ). splice 0 (tabulate n (λ k. signed16 a.bytes.now (2 * k))) a.levels.now) c.before.before.least-n.ensures.0
+returns c = let a = c.before.before.before.before.args in filling_end c.before.loop-i.invariant c.loop-i-test.false ∙ ap (λ (n : ℕ). splice 0 (tabulate n (λ k. signed16 a.bytes.now (2 * k))) a.levels.now) c.before.before.min-n.ensures
