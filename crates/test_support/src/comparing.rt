@@ -1,5 +1,5 @@
 // The first of some places at which two things differ. A place that one of the two does not have counts as different.
-ghost use Rattle.std.specs.Prelude.{◌≡◌, ℕ, Bool, Some, ◌<◌, ◌&&◌, ltb, length, ◌*◌, ◌/◌, slice_get};
+ghost use Rattle.std.specs.Prelude.{◌≡◌, ℕ, Bool, Some, ◌<◌, ◌≤◌, ◌&&◌, ltb, length, ◌*◌, ◌/◌, slice_get};
 ghost use Rattle.std.specs.Ordering.{int_eq};
 ghost use Rattle.test_support.specs.Definitions.Comparisons.{Gives, is_same, first_failure, first_difference, first_other, first_other_index};
 ghost use Rattle.test_support.specs.Definitions.Numbers.{signed16};
@@ -9,7 +9,7 @@ use std::ops::Range;
 
 // The first place that fails a test.
 pub fn first_failure<P: Fn(usize) -> bool>(places: Range<usize>, test: P) -> Option<usize>
-    requires { P.IsAlwaysCallable test }
+    requires { (k : ℕ) → places.start ≤ k → k < places.end → P.pre test k }
     ensures { (passes : ℕ → Bool) → Gives places.end (P.post test) passes → result ≡ first_failure places.start places.end passes }
 {
     for i in places.start..places.end {
@@ -50,10 +50,15 @@ pub fn first_other<T: PartialEq + Copy, F: Fn(usize) -> T>(
     places: Range<usize>,
     expected: F,
 ) -> Option<usize>
-    requires { F.IsAlwaysCallable expected }
+    requires { (k : ℕ) → places.start ≤ k → k < places.end → F.pre expected k }
     ensures { (f : ℕ → T) → Gives places.end (F.post expected) f → result ≡ first_other T.eq places.start places.end f buffer.now }
 {
-    first_failure(places, |i| holds(buffer, i, &expected(i)))
+    first_failure(
+        places,
+        |i|
+            requires { F.pre expected i }
+        { holds(buffer, i, &expected(i)) },
+    )
 }
 
 // Whether bytes hold the index of a place.

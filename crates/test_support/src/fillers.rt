@@ -1,5 +1,5 @@
 // What buffers hold before a call, different from place to place, and the first place that a call has changed.
-ghost use Rattle.std.specs.Prelude.{◌≡◌, ℕ, length};
+ghost use Rattle.std.specs.Prelude.{◌≡◌, ℕ, ◌<◌, ◌≤◌, length};
 ghost use Rattle.mathematics.specs.Definitions.Tables.{tabulate};
 ghost use Rattle.test_support.specs.Definitions.Fillers.{byte_filler, index_filler, work_filler};
 ghost use Rattle.test_support.specs.Definitions.Comparisons.{Gives, first_other};
@@ -31,7 +31,7 @@ pub fn work_filler(i: usize) -> i32
 
 // Puts its filler at each place.
 pub fn fill<T: Copy, F: Fn(usize) -> T>(buffer: &mut [T], filler: F)
-    requires { F.IsAlwaysCallable filler }
+    requires { (k : ℕ) → k < length buffer.old → F.pre filler k }
     ensures { (f : ℕ → T) → Gives (length buffer.old) (F.post filler) f → buffer.new ≡ tabulate (length buffer.old) f }
 {
     for (i, place) in buffer.iter_mut().enumerate() {
@@ -45,7 +45,7 @@ pub fn first_changed<T: PartialEq + Copy, F: Fn(usize) -> T>(
     from: usize,
     filler: F,
 ) -> Option<usize>
-    requires { F.IsAlwaysCallable filler }
+    requires { (k : ℕ) → from ≤ k → k < length buffer.now → F.pre filler k }
     ensures { (f : ℕ → T) → Gives (length buffer.now) (F.post filler) f → result ≡ first_other T.eq from (length buffer.now) f buffer.now }
 {
     comparing::first_other(buffer, from..buffer.len(), filler)
