@@ -1,6 +1,7 @@
 -- A loop that has written a table into the whole of a buffer, and a list whose elements are a table's. Assumes nothing.
-use Rattle.std.proofs.Common.{◌≡◌, ℕ, ◌<◌, ◌≤◌, List, length, get_or, sym, ◌∙◌, arith}
+use Rattle.std.proofs.Common.{◌≡◌, ℕ, ◌<◌, ◌≤◌, List, ◌++◌, length, get_or, drop, sym, ◌∙◌, zero-add, arith}
 use lib.Seq.{ext_get_or}
+use Rattle.mathematics.specs.Inner.Splices.{splice}
 use Rattle.mathematics.specs.Definitions.Tables.{tabulate}
 use Rattle.mathematics.proofs.Tables.{length-tabulate, get_or-tabulate}
 use Rattle.mathematics.proofs.Splices.{splice_whole}
@@ -14,3 +15,8 @@ filled {f = f} {l = l} {w = w} {i = i} r h =
 pub table_of : {A : Type 0} {n : ℕ} {f : ℕ → A} {l : List A} (d : A) → length l ≡ n → ((k : ℕ) → k < n → get_or l k d ≡ f k) → l ≡ tabulate n f
 table_of {n = n} {f = f} {l = l} d long at =
     ext_get_or d l (tabulate n f) (long ∙ sym (length-tabulate n f)) (λ k h. at k (omega arith) ∙ sym (get_or-tabulate n f d k (omega arith)))
+
+-- a table before what follows it in a list
+pub splice_front : {A : Type 0} (n : ℕ) (f : ℕ → A) (l : List A) → tabulate n f ++ drop n l ≡ splice 0 (tabulate n f) l
+unfolding splice
+splice_front n f l = rw (length-tabulate n f, zero-add n)

@@ -5,7 +5,7 @@ ghost use Rattle.mathematics.specs.Definitions.Tables.{tabulate};
 ghost use Rattle.mathematics.specs.Inner.Splices.{splice};
 ghost use Rattle.test_support.specs.Definitions.Numbers.{signed16};
 
-use crate::decoding;
+use crate::{decoding, fillers};
 use std::io;
 use std::io::Read;
 
@@ -78,7 +78,5 @@ pub fn load_indices(bytes: &[u8], levels: &mut [i16])
         (λ k. signed16 bytes.now (2 * k))) levels.old }
 {
     let n = (bytes.len() / 2).min(levels.len());
-    for i in 0..n {
-        levels[i] = decoding::signed16_at(bytes, 2 * i);
-    }
+    fillers::fill(&mut levels[..n], |i| decoding::signed16_at(bytes, 2 * i));
 }
