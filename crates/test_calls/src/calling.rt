@@ -2,6 +2,7 @@
 // accepted is lent a picture of one grey, or the levels of such a picture.
 use crate::buffers::{Buffers, Lengths, Put, set};
 use pyramid::Settings;
+use refusals::answer_number;
 use std::array;
 use test_support::fillers::index_filler;
 
@@ -12,6 +13,7 @@ pub(crate) enum Call {
     Rebuilding,
 }
 
+// The number that a call answers.
 pub(crate) fn answer_of(
     call: Call,
     s: Settings,
@@ -19,10 +21,10 @@ pub(crate) fn answer_of(
     levels: &mut [i16],
     work: &mut [i32],
 ) -> u16 {
-    match call {
+    answer_number(match call {
         Call::Coding => pyramid::coding(s, picture, levels, work),
         Call::Rebuilding => pyramid::rebuilding(s, levels, picture, work),
-    }
+    })
 }
 
 // What a call answers and leaves that is lent the first places of the buffers.

@@ -4,6 +4,7 @@ use crate::buffers::Lengths;
 use crate::calling::Call;
 use crate::{base, calling, shapes};
 use pyramid::Settings;
+use refusals::answer_number;
 use test_support::reporting::Checks;
 
 // A setting: C, R, N, k, or the bin of a slot.
@@ -36,17 +37,17 @@ fn with_setting(setting: Setting, value: u16) -> Settings {
     s
 }
 
-// T is answered with 0 where the settings are refused.
+// T, where the settings are not refused.
 fn nodes_give(s: Settings, answer: u16) -> bool {
     let t = pyramid::total_nodes(s);
-    let nodes = if answer == 0 { base::NODES } else { 0 };
-    t.refusal == answer && usize::from(t.nodes) == nodes
+    answer_number(t) == answer
+        && t.is_ok_and(|nodes| usize::from(nodes) == base::NODES) == (answer == 0)
 }
 
 // The bounds, or seven zeros where the settings are refused.
 fn bounds_give(s: Settings, answer: u16, bounds: [u16; 7]) -> bool {
     let b = pyramid::level_bounds(s);
-    b.refusal == answer && b.levels == bounds
+    answer_number(b) == answer && b.unwrap_or([0; 7]) == bounds
 }
 
 // The answer of all functions, with buffers of the lengths of the settings without the fault.

@@ -1,37 +1,33 @@
 // The calls on a shape alone and on a level buffer alone, and the test of a range of indices.
 use pyramid::{IndexRange, Settings};
+use refusals::answer_number;
 use std::array;
 use test_support::fillers::index_filler;
 use test_support::reporting::Checks;
 
-// A shape's bins are not looked at: T, or 0 where the shape is refused.
+// A shape's bins are not looked at: T, where the shape is not refused.
 fn nodes_give(s: Settings, refusal: u16, nodes: u16) -> bool {
     let t = pyramid::shape_nodes(s);
-    let expected = if refusal == 0 { nodes } else { 0 };
-    t.refusal == refusal && t.nodes == expected
+    answer_number(t) == refusal && t.is_ok_and(|n| n == nodes) == (refusal == 0)
 }
 
-// A level of so many columns and rows; 0 by 0 where the shape is refused.
+// A level of so many columns and rows, where the shape is not refused.
 fn level_gives(s: Settings, level: u16, refusal: u16, columns: u16, rows: u16) -> bool {
     let size = pyramid::level_size(s, level);
-    let expected = if refusal == 0 {
-        (columns, rows)
-    } else {
-        (0, 0)
-    };
-    size.refusal == refusal && (size.columns, size.rows) == expected
+    let is_so = size.is_ok_and(|z| z.columns == columns && z.rows == rows);
+    answer_number(size) == refusal && is_so == (refusal == 0)
 }
 
 // A level buffer of 66 small indices.
 fn levels_give(s: Settings, answer: u16) -> bool {
     let levels: [i16; 66] = array::from_fn(|i| index_filler(true, i));
-    pyramid::levels_refusal(s, &levels) == answer
+    answer_number(pyramid::check_levels(s, &levels)) == answer
 }
 
 // Settings whose shape is 9 by 5, N = 2, or refused.
 pub(crate) fn check(t: &mut Checks, s: Settings, answer: u16) {
     let refusal = if answer == 3 { 0 } else { answer };
-    t.check(pyramid::settings_refusal(s) == answer);
+    t.check(answer_number(pyramid::check_settings(s)) == answer);
     t.check(nodes_give(s, refusal, 66));
     t.check(level_gives(s, 0, refusal, 9, 5));
     t.check(level_gives(s, 2, refusal, 3, 2));

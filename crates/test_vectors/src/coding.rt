@@ -1,20 +1,14 @@
 // An accepted coding.
 use crate::comparing;
-use crate::parts::{Finding, Part};
+use crate::parts::{Finding, Part, refused};
 use crate::shape::{AFTER, MOST_NODES, MOST_PLACES, Shape};
 use test_support::comparing::indices;
 use test_support::fillers::{fill, first_changed, index_filler, work_filler};
 use test_support::reading::rest;
 use test_support::reporting::compared;
 
-// What a coding answers and leaves. The bytes hold the indices and then the averages.
-fn compare(z: Shape, answer: u16, bytes: &[u8], levels: &[i16], work: &[i32]) -> Option<Finding> {
-    if answer != 0 {
-        return Some(Finding {
-            part: Part::CodingAnswer,
-            place: usize::from(answer),
-        });
-    }
+// What a coding leaves. The bytes hold the indices and then the averages.
+fn compare(z: Shape, bytes: &[u8], levels: &[i16], work: &[i32]) -> Option<Finding> {
     let averages = rest(bytes, 2 * z.nodes);
     let average = comparing::averages(averages, work, z.nodes);
     let after = first_changed(work, z.nodes, work_filler);
@@ -33,8 +27,10 @@ fn check_lent(
 ) -> Option<Finding> {
     fill(levels, |i| index_filler(false, i));
     fill(work, work_filler);
-    let answer = pyramid::coding(z.settings, picture, levels, work);
-    compare(z, answer, bytes, levels, work)
+    match pyramid::coding(z.settings, picture, levels, work) {
+        Ok(()) => compare(z, bytes, levels, work),
+        Err(refusal) => Some(refused(Part::CodingAnswer, refusal)),
+    }
 }
 
 // Codes the picture that the case starts with.

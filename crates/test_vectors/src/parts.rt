@@ -1,4 +1,5 @@
 // The parts of a case that can differ.
+use refusals::Refusal;
 use std::fmt;
 use test_support::reporting;
 
@@ -23,6 +24,14 @@ pub(crate) enum Part {
 }
 
 pub(crate) type Finding = reporting::Finding<Part>;
+
+// A call that is refused: the place is the number.
+pub(crate) fn refused(part: Part, refusal: Refusal) -> Finding {
+    Finding {
+        part,
+        place: usize::from(u16::from(refusal)),
+    }
+}
 
 impl fmt::Display for Part {
     fn fmt<W: fmt::Write>(&self, f: &mut fmt::Formatter<W>) -> fmt::Result {

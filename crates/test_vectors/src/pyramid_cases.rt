@@ -1,6 +1,6 @@
 // The cases of the file `pyramid`: a picture; the indices and averages of its coding; the values and the picture that are
 // rebuilt from these indices; the bounds. Both calls are accepted.
-use crate::parts::{Finding, Part};
+use crate::parts::{Finding, Part, refused};
 use crate::shape::{MOST_BYTES, Shape};
 use crate::{coding, comparing, rebuilding};
 use std::io;
@@ -8,29 +8,24 @@ use std::io::Read;
 use test_support::reading::{read_exactly, rest};
 use test_support::reporting::{compared, cut_unless};
 
-// The number of nodes and the bounds.
-fn check_settings(z: Shape, bounds: &[u8]) -> Option<Finding> {
-    let t = pyramid::total_nodes(z.settings);
-    if t.refusal != 0 {
-        return Some(Finding {
-            part: Part::NodesAnswer,
-            place: usize::from(t.refusal),
-        });
-    }
-    if usize::from(t.nodes) != z.nodes {
-        return Some(Finding {
+// The number of nodes.
+fn check_nodes(z: Shape) -> Option<Finding> {
+    match pyramid::total_nodes(z.settings) {
+        Ok(nodes) if usize::from(nodes) == z.nodes => None,
+        Ok(nodes) => Some(Finding {
             part: Part::Nodes,
-            place: usize::from(t.nodes),
-        });
+            place: usize::from(nodes),
+        }),
+        Err(refusal) => Some(refused(Part::NodesAnswer, refusal)),
     }
-    let b = pyramid::level_bounds(z.settings);
-    if b.refusal != 0 {
-        return Some(Finding {
-            part: Part::BoundsAnswer,
-            place: usize::from(b.refusal),
-        });
+}
+
+// The bounds.
+fn check_bounds(z: Shape, bounds: &[u8]) -> Option<Finding> {
+    match pyramid::level_bounds(z.settings) {
+        Ok(levels) => compared(Part::Bound, comparing::bounds(bounds, levels, z.levels)),
+        Err(refusal) => Some(refused(Part::BoundsAnswer, refusal)),
     }
-    compared(Part::Bound, comparing::bounds(bounds, b.levels, z.levels))
 }
 
 // Codes the picture of a case, and rebuilds it.
@@ -49,6 +44,6 @@ pub(crate) fn check_read<R: Read>(
     let bounds = 2 * z.pixels + 8 * z.nodes;
     let is_read = read_exactly(data, case, bounds + 2 * z.levels)?;
     let cut = cut_unless(is_read, Part::EndOfFile);
-    let settings = check_settings(z, rest(case, bounds));
+    let settings = check_nodes(z).or(check_bounds(z, rest(case, bounds)));
     Ok(cut.or(settings).or(check_calls(z, case)))
 }

@@ -2,6 +2,7 @@
 use crate::comparing;
 use crate::parts::{Finding, Part};
 use crate::shape::{AFTER, MOST_NODES, MOST_PIXELS, MOST_PLACES, Shape};
+use refusals::answer_number;
 use test_support::comparing::first_difference;
 use test_support::fillers::{byte_filler, fill, first_changed, work_filler};
 use test_support::reading::{load_indices, rest};
@@ -56,7 +57,7 @@ fn check_lent(
 ) -> Option<Finding> {
     fill(picture, byte_filler);
     fill(work, work_filler);
-    let got = pyramid::rebuilding(z.settings, levels, picture, work);
+    let got = answer_number(pyramid::rebuilding(z.settings, levels, picture, work));
     compare(z, answer, got, bytes, picture, work)
 }
 
