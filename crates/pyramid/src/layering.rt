@@ -12,6 +12,8 @@ ghost use Rattle.pyramid.specs.Definitions.Refusals.{limit, values_ok};
 ghost use Rattle.pyramid.specs.Inner.Ranges.{CodingRanges, RebuildingRanges};
 ghost use Rattle.pyramid.specs.Inner.Layers.{predicted, index_at, value_at, LevelSmall, IndexLevel, Holds, ValueLevel};
 
+use crate::rasters::Raster;
+use crate::taps::Weights;
 use crate::{Settings, averaging, copying, counting, expanding};
 
 // The averages of the level above l, from those of level l.
@@ -26,7 +28,7 @@ fn average_level(s: Settings, l: u16, work: &mut [i32])
     let from = counting::start_of(s, l);
     let columns = counting::columns_at(s, l);
     let rows = counting::rows_at(s, l);
-    averaging::reduce_level(work, from, columns, rows, s.kernel);
+    averaging::reduce_level(work, from, columns, rows, Weights::new(s.kernel));
 }
 
 // The averages of all levels, from the picture at its place.
@@ -46,19 +48,22 @@ pub fn average_levels(s: Settings, work: &mut [i32])
 fn predict_row(s: Settings, l: u16, from: usize, j: usize, work: &[i32], row: &mut [i32])
     requires lawful { Lawful s }
     requires l_le_depth { (l ≤ s.depth) × (j < rows_at s l) × (total s ≤ length work.now)
-        × (columns_at s l ≤ length row.old) × (from ≡ start s l) }
+        × (length row.old ≡ columns_at s l) × (from ≡ start s l) }
     requires level_small { LevelSmall s (suc l) 524288 work.now }
     ensures { row.new ≡
-        splice 0 (tabulate (columns_at s l)
-        (λ i. predicted s (s.depth - l) l (read_levels s work.now) i j)) row.old }
+        tabulate (columns_at s l) (λ i. predicted s (s.depth - l) l (read_levels s work.now) i j) }
 {
     if l == s.depth {
-        row[..counting::columns_at(s, l)].fill(0);
+        row.fill(0);
     } else {
         let columns = counting::columns_at(s, l + 1);
         let rows = counting::rows_at(s, l + 1);
-        let above = from - rows * columns;
-        expanding::expand_row(&work[above..from], columns, rows, j, s.kernel, row);
+        let above = Raster {
+            values: &work[from - rows * columns..from],
+            columns,
+            rows,
+        };
+        expanding::expand_row(above, j, Weights::new(s.kernel), row);
     }
 }
 
@@ -74,12 +79,13 @@ fn index_level(s: Settings, l: u16, work: &[i32], levels: &mut [i16])
     let columns = counting::columns_at(s, l);
     let rows = counting::rows_at(s, l);
     let mut row: [i32; 129] = [0; 129];
+    let row = &mut row[..columns];
     let from = counting::start_of(s, l);
     for j in 0..rows {
-        predict_row(s, l, from, j, work, &mut row);
+        predict_row(s, l, from, j, work, row);
         let at = from + j * columns;
         let to = at + columns;
-        copying::index_row(&work[at..to], &row, bin, levels, at);
+        copying::index_row(&work[at..to], row, bin, &mut levels[at..to]);
     }
 }
 
@@ -107,12 +113,13 @@ fn value_level(s: Settings, l: u16, levels: &[i16], work: &mut [i32])
     let columns = counting::columns_at(s, l);
     let rows = counting::rows_at(s, l);
     let mut row: [i32; 129] = [0; 129];
+    let row = &mut row[..columns];
     let from = counting::start_of(s, l);
     for j in 0..rows {
-        predict_row(s, l, from, j, work, &mut row);
+        predict_row(s, l, from, j, work, row);
         let at = from + j * columns;
         let to = at + columns;
-        copying::value_row(&levels[at..to], &row, bin, work, at);
+        copying::value_row(&levels[at..to], row, bin, &mut work[at..to]);
     }
 }
 

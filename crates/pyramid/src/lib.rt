@@ -20,6 +20,7 @@ mod counting;
 mod expanding;
 mod layering;
 mod ranging;
+mod rasters;
 mod taps;
 
 // The number of the first rule that settings break: 1, 13, 14, 15, 2, 3, or 0.
