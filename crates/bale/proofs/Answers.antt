@@ -13,9 +13,7 @@ use Rattle.pyramid.proofs.Refusals.{first_skip, first-last, answers_fails, unles
 use Rattle.bale.specs.declared.Note.{Note}
 use Rattle.bale.specs.Definitions.Files.{file_of, file_length}
 use Rattle.bale.specs.Definitions.Reader.{depth_in, settings_in, note_in, levels_in, shape_section_refusal, body_refusal}
-use Rattle.bale.specs.Definitions.Calls.{bale_in, check_refusal, check_file, size_answer, write_refusal, write_file, no_settings, no_note, bale_of, read_refusal, read_file}
-use Rattle.bale.proofs.AcceptedFiles.{accepted_writing}
-use Rattle.bale.proofs.Writings.{size_is}
+use Rattle.bale.specs.Definitions.Calls.{bale_in, check_refusal, check_file, write_refusal, write_file, no_settings, no_note, bale_of, read_refusal, read_file}
 
 -- ---- the writer
 

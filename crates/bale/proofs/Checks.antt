@@ -1,7 +1,7 @@
 -- Which number is answered first, section by section. Assumes nothing.
 use mathlib.Core.Path.{◌≡◌, refl, sym, ap, ◌∙◌}
 use mathlib.Core.Bool.{Bool, cond}
-use mathlib.Core.List.{List, []}
+use mathlib.Core.List.{List}
 use Prim.Native.Nat.{ℕ, zero, suc, ◌+◌, ◌-◌, ◌*◌, ◌≤◌}
 use native.Mathlib.Omega.{arith}
 use borrow.Author.Tests.{le-leb}
@@ -11,7 +11,7 @@ use Rattle.mathematics.specs.Definitions.Tests.{all}
 use Rattle.pyramid.specs.declared.Settings.{Settings}
 use Rattle.pyramid.specs.Definitions.Settings.{bin, bins_ok}
 use Rattle.pyramid.specs.Definitions.Sizes.{nodes_at}
-use Rattle.pyramid.specs.Definitions.Refusals.{unless, first, index_ok, shape_refusal}
+use Rattle.pyramid.specs.Definitions.Refusals.{unless, index_ok, shape_refusal}
 use Rattle.pyramid.proofs.Refusals.{first_stop, first_skip, first-last}
 use Rattle.bale.specs.Definitions.Words.{indices_at}
 use Rattle.bale.specs.Definitions.Sections.{section_refusal}

@@ -8,13 +8,9 @@ use native.Mathlib.Omega.{arith}
 use borrow.Rule.Slice.PartMut.{put_mid}
 use lib.IntN.{ℤ, pos}
 use lib.ListN.{length, get_or, take, drop, length-map, length-append}
-use lib.Seq.{length-take-le, take_all, take-suc, drop-drop}
-use mir.Syntax.{w16}
-use mir.Facts.{sfits_to_z}
-use mir.Val.{SFits}
+use lib.Seq.{length-take-le, take_all, take-suc}
 use Rattle.mathematics.specs.Inner.Splices.{splice, part}
 use Rattle.mathematics.specs.Definitions.Tables.{tabulate}
-use Rattle.mathematics.proofs.Held.{short, short_is}
 use Rattle.mathematics.proofs.Tables.{tabulate-same, tabulate-map}
 use Rattle.mathematics.proofs.Splices.{length-splice, part_long, splice_nil, splice_append, splice_front, splice_whole}
 use Rattle.pyramid.specs.declared.Settings.{Settings}

@@ -6,8 +6,8 @@ use Prim.Native.Nat.{ℕ, zero, suc, ◌*◌, ◌%◌, ◌≤◌, ◌<◌}
 use native.Mathlib.Decide.{dec_lt}
 use native.Mathlib.Nat.{mod-eq_of_lt, lt_of_not-le, le_of_suc-le-suc}
 use native.Mathlib.Omega.{arith}
-use borrow.Author.Tests.{ne_eqb, eq-eqb, lt-ltb, le-ltb, le-leb, lt-leb, eqb-true}
-use lib.Dec.{T, ltb, leb, eqb}
+use borrow.Author.Tests.{lt-ltb, le-ltb, eqb-true}
+use lib.Dec.{T, ltb, eqb}
 use Rattle.std.specs.Prelude.{Result, Ok, Err}
 use Rattle.refusals.specs.declared.Refusal.{Refusal}
 use Rattle.refusals.specs.declared.Refusal.TheVariants.{Reading as Unlawful}
@@ -20,8 +20,7 @@ use Rattle.pyramid.specs.Definitions.Refusals.{unless}
 use Rattle.pyramid.proofs.Refusals.{unless_passes, unless_fails, leaves_new, leaves_kept, outcome_left}
 use Rattle.bale.specs.declared.Reading.{Reading}
 use Rattle.bale.specs.declared.Reading.TheVariants.{NotFitted, Percentage, Fault}
-use Rattle.bale.specs.declared.Note.{Note}
-use Rattle.bale.specs.Definitions.Readings.{CodeAnswer, ReadingAnswer, code_in, percentage_ok, fault_ok, HeldReading, code_where, code_of, reading_ok, note_ok, probe_where, decode}
+use Rattle.bale.specs.Definitions.Readings.{CodeAnswer, ReadingAnswer, code_in, percentage_ok, fault_ok, HeldReading, code_where, code_of, reading_ok, probe_where, decode}
 
 abbrev hundred : Float
 hundred = of_bits binary32 0x42C8_0000

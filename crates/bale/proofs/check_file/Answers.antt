@@ -1,7 +1,7 @@
 -- `bale::check_file` meets its contract: a refusal, or what the file says of its bale. Assumes nothing.
-use mathlib.Core.Path.{◌≡◌, sym, ◌∙◌}
+use mathlib.Core.Path.{sym, ◌∙◌}
 use Rattle.refusals.proofs.Outcomes.{none, value-is, passed_on}
-use Rattle.pyramid.proofs.Refusals.{first_stop, first_skip, first-last}
+use Rattle.pyramid.proofs.Refusals.{first_stop}
 use Rattle.bale.specs.Definitions.Calls.{check_refusal, bale_of, check_file}
 use Rattle.bale.proofs.Answers.{checked}
 use Rattle.bale.proofs.check_file.Goals as goal

@@ -1,5 +1,5 @@
 -- `bale::file_size` meets its contract: the size of a file of lawful settings. Assumes nothing.
-use mathlib.Core.Path.{◌≡◌, refl, sym, ◌∙◌}
+use mathlib.Core.Path.{refl, sym}
 use Rattle.refusals.proofs.Outcomes.{accepts, none, value-is, passed_on}
 use Rattle.pyramid.proofs.Refusals.{outcome_left}
 use Rattle.bale.specs.Definitions.Calls.{size_answer}

@@ -1,5 +1,5 @@
 -- `bale::read_file` meets its contract: refused, nothing is touched; accepted, the level buffer is filled. Assumes nothing.
-use mathlib.Core.Path.{◌≡◌, sym, ap, ◌∙◌}
+use mathlib.Core.Path.{sym, ap, ◌∙◌}
 use native.Mathlib.Omega.{arith}
 use Rattle.refusals.specs.declared.Refusal.TheVariants.{LevelsLength}
 use Rattle.refusals.proofs.Outcomes.{refuses, accepts, none, some, value-is, passed_on}

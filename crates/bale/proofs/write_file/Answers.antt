@@ -1,5 +1,5 @@
 -- `bale::write_file` meets its contract: refused, nothing is touched; accepted, the file is put. Assumes nothing.
-use mathlib.Core.Path.{◌≡◌, refl, sym, ◌∙◌}
+use mathlib.Core.Path.{refl, sym, ◌∙◌}
 use Rattle.refusals.proofs.Outcomes.{accepts, none, some, value-is, passed_on}
 use Rattle.bale.proofs.Answers.{writing_left, writing_kept, writing_put}
 use Rattle.bale.proofs.write_file.Goals as goal

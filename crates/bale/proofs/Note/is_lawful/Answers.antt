@@ -1,5 +1,4 @@
 -- `bale::Note::is_lawful` meets its contract: both readings are. Assumes nothing.
-use mathlib.Core.Path.{◌≡◌}
 use Rattle.bale.specs.Definitions.Readings.{note_ok}
 use Rattle.bale.proofs.Note.is_lawful.Goals as goal
 

@@ -1,5 +1,4 @@
 -- `bale::Reading::is_lawful` meets its contract: each answer is the rule of its case. Assumes nothing.
-use mathlib.Core.Path.{◌≡◌}
 use Rattle.bale.proofs.Readings.{none_ok, percentage_low, percentage_high, fault_is}
 use Rattle.bale.proofs.Reading.is_lawful.Goals as goal
 

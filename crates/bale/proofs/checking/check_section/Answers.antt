@@ -1,5 +1,5 @@
 -- `bale::checking::check_section` meets its contract: test by test. Assumes nothing.
-use mathlib.Core.Path.{◌≡◌, sym, ◌∙◌}
+use mathlib.Core.Path.{sym, ◌∙◌}
 use Rattle.refusals.specs.declared.Refusal.TheVariants.{FileEnds, Count}
 use Rattle.refusals.proofs.Outcomes.{refuses, accepts}
 use Rattle.bale.proofs.Sections.{section_accepted}

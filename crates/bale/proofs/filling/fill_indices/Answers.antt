@@ -1,7 +1,6 @@
 -- `bale::filling::fill_indices` meets its contract: each turn of its loop fills one place. Assumes nothing.
-use mathlib.Core.Path.{◌≡◌, refl, ◌∙◌}
+use mathlib.Core.Path.{◌∙◌}
 use native.Mathlib.Omega.{arith}
-use lib.ListN.{length}
 use Rattle.mathematics.proofs.Filling.{filling_start, filling_next, filling_end}
 use Rattle.bale.proofs.WordLaws.{index_held}
 use Rattle.bale.proofs.WordLists.{words_short}

@@ -1,5 +1,5 @@
 -- `bale::finding::reading_at` meets its contract: the kind and the number are those at the place. Assumes nothing.
-use mathlib.Core.Path.{◌≡◌, ◌∙◌}
+use mathlib.Core.Path.{◌∙◌}
 use Rattle.bale.specs.Definitions.Reader.{probe_at}
 use Rattle.bale.proofs.finding.reading_at.Goals as goal
 

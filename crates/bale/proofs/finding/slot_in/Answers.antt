@@ -1,5 +1,5 @@
 -- `bale::finding::slot_in` meets its contract: by its definition. Assumes nothing.
-use mathlib.Core.Path.{◌≡◌, ◌∙◌}
+use mathlib.Core.Path.{◌∙◌}
 use borrow.Author.Tests.{le-leb, lt-leb}
 use Rattle.bale.specs.Definitions.Reader.{slot_in}
 use Rattle.bale.proofs.finding.slot_in.Goals as goal

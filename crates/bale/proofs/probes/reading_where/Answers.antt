@@ -1,5 +1,5 @@
 -- `bale::probes::reading_where` meets its contract: the reading, or refusal 4. Assumes nothing.
-use mathlib.Core.Path.{◌≡◌, sym}
+use mathlib.Core.Path.{sym}
 use Rattle.refusals.specs.declared.Refusal.TheVariants.{Reading}
 use Rattle.refusals.proofs.Outcomes.{refuses, accepts}
 use Rattle.pyramid.proofs.Refusals.{unless_passes, unless_fails}

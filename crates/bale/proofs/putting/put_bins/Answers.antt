@@ -1,5 +1,5 @@
 -- `bale::putting::put_bins` meets its contract: its count, then bin by bin. Assumes nothing.
-use mathlib.Core.Path.{◌≡◌, refl, sym, ◌∙◌}
+use mathlib.Core.Path.{refl, ◌∙◌}
 use Prim.Native.Nat.{◌+◌}
 use native.Mathlib.Omega.{arith}
 use Rattle.bale.proofs.Pieces.{bins_next, bins_more, bins_last}

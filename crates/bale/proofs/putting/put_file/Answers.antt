@@ -1,5 +1,4 @@
 -- `bale::putting::put_file` meets its contract: section by section, and an accepted file has room for all. Assumes nothing.
-use mathlib.Core.Path.{◌≡◌}
 use native.Mathlib.Omega.{arith}
 use Rattle.bale.specs.Definitions.Files.{file_length}
 use Rattle.bale.proofs.AcceptedFiles.{accepted_writing}

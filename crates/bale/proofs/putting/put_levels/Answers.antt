@@ -1,6 +1,5 @@
 -- `bale::putting::put_levels` meets its contract: level by level. Assumes nothing.
-use mathlib.Core.Path.{◌≡◌, ap, ◌∙◌}
-use Prim.Native.Nat.{◌+◌, ◌*◌}
+use mathlib.Core.Path.{ap, ◌∙◌}
 use native.Mathlib.Omega.{arith}
 use lib.ListN.{length}
 use Rattle.pyramid.proofs.Sizes.{nodes_down, nodes_most, total-is}

@@ -1,5 +1,5 @@
 -- `bale::putting::put_readings` meets its contract: piece by piece. Assumes nothing.
-use mathlib.Core.Path.{◌≡◌, ◌∙◌}
+use mathlib.Core.Path.{◌∙◌}
 use Rattle.mathematics.proofs.Tests.{both}
 use Rattle.bale.specs.Definitions.Readings.{reading_ok, note_ok}
 use Rattle.bale.proofs.Pieces.{readings_next}

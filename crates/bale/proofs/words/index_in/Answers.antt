@@ -1,7 +1,5 @@
 -- `bale::words::index_in` meets its contract: the two bytes, read as a signed number. Assumes nothing.
-use mathlib.Core.Path.{◌≡◌, ◌∙◌}
 use Prim.Native.Nat.{◌+◌}
-use native.Mathlib.Omega.{arith}
 use Rattle.bale.specs.Definitions.Words.{u16_at}
 use Rattle.bale.proofs.WordLaws.{index_read}
 use Rattle.bale.proofs.words.index_in.Goals as goal

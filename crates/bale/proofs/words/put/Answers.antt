@@ -1,5 +1,4 @@
 -- `bale::words::put` meets its contract: the part that is copied over is a splice. Assumes nothing.
-use mathlib.Core.Path.{◌≡◌}
 use native.Mathlib.Omega.{arith}
 use Rattle.bale.proofs.WordLaws.{put_splice}
 use Rattle.bale.proofs.words.put.Goals as goal

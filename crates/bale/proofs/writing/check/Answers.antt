@@ -1,11 +1,10 @@
 -- `bale::writing::check` meets its contract: rule by rule, number 8 before the levels' last. Assumes nothing.
-use mathlib.Core.Path.{◌≡◌, sym, ap, ◌∙◌}
+use mathlib.Core.Path.{sym, ap, ◌∙◌}
 use Rattle.std.proofs.lemmas.Result.{err_from_is_err_and}
 use Rattle.refusals.specs.declared.Refusal.TheVariants.{Reading, LevelsLength, FileLength}
 use Rattle.refusals.proofs.Outcomes.{refuses, accepts, none, some, value-is, passes}
 use Rattle.pyramid.specs.Definitions.Sizes.{total}
 use Rattle.pyramid.proofs.Refusals.{first_stop}
-use Rattle.bale.specs.Definitions.Files.{file_length}
 use Rattle.bale.specs.Definitions.Calls.{write_refusal}
 use Rattle.bale.proofs.Writings.{note_refused, length_refused, room_refused, values_left}
 use Rattle.bale.proofs.writing.check.Goals as goal

@@ -1,5 +1,4 @@
 -- `bale::writing::file_length` meets its contract: by its definition. Assumes nothing.
-use mathlib.Core.Path.{◌≡◌}
 use Rattle.bale.specs.Definitions.Files.{file_length}
 use Rattle.bale.proofs.writing.file_length.Goals as goal
 

@@ -1,5 +1,4 @@
 -- `bale::probes::CodeTryFromReading::try_from` meets its contract: the code of a lawful reading, else refusal 4. Assumes nothing.
-use mathlib.Core.Path.{◌≡◌}
 use Rattle.bale.proofs.Readings.{coded, not_coded}
 use Rattle.bale.proofs.probes.CodeTryFromReading.try_from.Goals as goal
 

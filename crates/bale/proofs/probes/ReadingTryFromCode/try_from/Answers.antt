@@ -1,5 +1,4 @@
 -- `bale::probes::ReadingTryFromCode::try_from` meets its contract: each answer is a case of `decode`. Assumes nothing.
-use mathlib.Core.Path.{◌≡◌}
 use native.Mathlib.Omega.{arith}
 use Rattle.bale.proofs.Readings.{decode_none, decode_fault, decode_other}
 use Rattle.bale.proofs.probes.ReadingTryFromCode.try_from.Goals as goal

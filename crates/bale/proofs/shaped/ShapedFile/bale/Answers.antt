@@ -1,9 +1,9 @@
 -- `bale::shaped::ShapedFile::bale` meets its contract: section by section. Assumes nothing.
-use mathlib.Core.Path.{◌≡◌, sym, ap, ◌∙◌}
+use mathlib.Core.Path.{sym, ◌∙◌}
 use Rattle.refusals.proofs.Outcomes.{accepts, none, value-is, passed_on}
 use Rattle.pyramid.proofs.Refusals.{first_stop, first_skip, first-last}
 use Rattle.bale.specs.Definitions.Reader.{settings_in, body_refusal}
-use Rattle.bale.proofs.Checks.{depth_in_lem, readings_in, levels_in_lem}
+use Rattle.bale.proofs.Checks.{readings_in, levels_in_lem}
 use Rattle.bale.proofs.shaped.ShapedFile.bale.Goals as goal
 
 pub returns-in_err-check_bins : goal.returns-in_err-check_bins

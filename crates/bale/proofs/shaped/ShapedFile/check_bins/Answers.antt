@@ -1,5 +1,5 @@
 -- `bale::shaped::ShapedFile::check_bins` meets its contract: the section, then the bins. Assumes nothing.
-use mathlib.Core.Path.{◌≡◌, sym, ◌∙◌}
+use mathlib.Core.Path.{sym, ◌∙◌}
 use Rattle.refusals.proofs.Outcomes.{accepts, none, passed_on}
 use Rattle.bale.proofs.Checks.{bins_stop, bins_left}
 use Rattle.bale.proofs.shaped.ShapedFile.check_bins.Goals as goal

@@ -1,5 +1,5 @@
 -- `bale::shaped::ShapedFile::fill` meets its contract: level by level. Assumes nothing.
-use mathlib.Core.Path.{◌≡◌, sym, ap, ◌∙◌}
+use mathlib.Core.Path.{sym, ap, ◌∙◌}
 use native.Mathlib.Omega.{arith}
 use Rattle.pyramid.specs.Definitions.Sizes.{total}
 use Rattle.pyramid.proofs.Sizes.{nodes_down, total-is}

@@ -1,5 +1,5 @@
 -- `bale::shaped::ShapedFile::new` meets its contract: the section, then the shape. Assumes nothing.
-use mathlib.Core.Path.{◌≡◌, sym, ◌∙◌}
+use mathlib.Core.Path.{sym, ◌∙◌}
 use Rattle.std.proofs.lemmas.Result.{err_from_is_err_and}
 use Rattle.refusals.proofs.Outcomes.{accepts, none, some, value-is, passes}
 use Rattle.pyramid.proofs.Refusals.{first_stop}

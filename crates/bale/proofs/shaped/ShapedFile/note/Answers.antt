@@ -1,5 +1,5 @@
 -- `bale::shaped::ShapedFile::note` meets its contract: the section, then each reading. Assumes nothing.
-use mathlib.Core.Path.{◌≡◌, sym, ◌∙◌}
+use mathlib.Core.Path.{sym, ◌∙◌}
 use Rattle.refusals.proofs.Outcomes.{accepts, none, value-is, passed_on}
 use Rattle.pyramid.proofs.Refusals.{first_stop, first_skip, first-last}
 use Rattle.bale.specs.Definitions.Reader.{readings_section_refusal, note_in}
