@@ -164,7 +164,7 @@ def point5(fs):
 def point6(fs):
     for f in fs:
         slices = [p for p in f.params if re.search(r": &(mut )?\[", p)]
-        places = [p for p in f.params if re.match(r"(at|from|n|count|end|places|nodes|columns|to): (usize|u32|u16)$", p)]
+        places = [p for p in f.params if re.match(r"(at|from|n|count|end|places|nodes|columns|to): usize$", p)]
         if slices and places:
             yield f.file, f"{f.place}: {', '.join(slices)} with {', '.join(places)}"
 

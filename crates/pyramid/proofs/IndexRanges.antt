@@ -1,6 +1,6 @@
 -- The lowest and the highest index pass the test of number 11 where all do: what lies between two that pass, passes. Assumes nothing.
 use mathlib.Core.Path.{◌≡◌, sym, ◌∙◌}
-use mathlib.Core.Bool.{Bool, true, false, ◌&&◌, and_assoc, and-true}
+use mathlib.Core.Bool.{true, ◌&&◌, and_assoc, and-true}
 use mathlib.Core.List.{List}
 use Prim.Native.Nat.{ℕ, ◌+◌, ◌*◌, ◌≤◌, ◌<◌}
 use native.Mathlib.Omega.{arith}
@@ -8,72 +8,30 @@ use borrow.Author.Tests.{le-leb}
 use lib.Dec.{T, leb→le, le→leb}
 use lib.IntN.{ℤ, pos, ◌*ℤ◌}
 use lib.ListN.{length, get_or, drop}
-use lib.Signed.{◌≤ℤ◌, lt_z, lt_z_yes, lt_z_no, ≤ℤ_refl}
-use mir.Syntax.{w16}
-use mir.Val.{SFits}
+use lib.Signed.{◌≤ℤ◌, lt_z, ≤ℤ_refl}
+use Rattle.std.specs.Int.{int_min, int_max}
+use Rattle.std.proofs.lemmas.Int.{ints, clamps}
 use Rattle.mathematics.specs.Definitions.Tests.{all}
-use Rattle.mathematics.proofs.Held.{short, short_is}
-use Rattle.mathematics.proofs.IntegerLaws.{≤ℤ-trans, <ℤ-≤ℤ, *ℤ-mono, abs_between}
+use Rattle.mathematics.proofs.IntegerLaws.{≤ℤ-trans, *ℤ-mono, abs_between}
 use Rattle.mathematics.proofs.Tests.{both, both_of, same_test, cond_elim, all-next, all_past}
 use Rattle.pyramid.specs.declared.IndexRange.{IndexRange}
 use Rattle.pyramid.specs.Definitions.Refusals.{limit, index_ok}
-use Rattle.pyramid.specs.Definitions.IndexRanges.{lesser, greater, widened, range_ok}
+use Rattle.pyramid.specs.Definitions.IndexRanges.{widened, range_ok}
 
 -- ---- the order of the lesser and the greater
 
 module _ (a b : ℤ) where
-  lesser-first : lesser a b ≤ℤ a
-  unfolding lesser
-  lesser-first = cond_elim (lt_z b a) b a (λ z. z ≤ℤ a) (λ t. <ℤ-≤ℤ (lt_z_yes t)) (λ t. ≤ℤ_refl a)
+  lesser-first : int_min a b ≤ℤ a
+  lesser-first = omega (arith, ints, clamps)
 
-  lesser_second : lesser a b ≤ℤ b
-  unfolding lesser
-  lesser_second = cond_elim (lt_z b a) b a (λ z. z ≤ℤ b) (λ t. ≤ℤ_refl b) (λ t. lt_z_no t)
+  lesser_second : int_min a b ≤ℤ b
+  lesser_second = omega (arith, ints, clamps)
 
-  greater-first : a ≤ℤ greater a b
-  unfolding greater
-  greater-first = cond_elim (lt_z a b) b a (λ z. a ≤ℤ z) (λ t. <ℤ-≤ℤ (lt_z_yes t)) (λ t. ≤ℤ_refl a)
+  greater-first : a ≤ℤ int_max a b
+  greater-first = omega (arith, ints, clamps)
 
-  greater_second : b ≤ℤ greater a b
-  unfolding greater
-  greater_second = cond_elim (lt_z a b) b a (λ z. b ≤ℤ z) (λ t. ≤ℤ_refl b) (λ t. lt_z_no t)
-
--- as the machine finds them
-module _ {a b : ℤ} (fa : SFits w16 a) (fb : SFits w16 b) where
-  pub lesser_new : lt_z (short b) (short a) ≡ true → short b ≡ lesser a b
-  unfolding lesser
-  lesser_new = rw (short_is fa, short_is fb) (λ h. rw h)
-
-  pub lesser_old : lt_z (short b) (short a) ≡ false → short a ≡ lesser a b
-  unfolding lesser
-  lesser_old = rw (short_is fa, short_is fb) (λ h. rw h)
-
-  pub greater_new : lt_z (short a) (short b) ≡ true → short b ≡ greater a b
-  unfolding greater
-  greater_new = rw (short_is fa, short_is fb) (λ h. rw h)
-
-  pub greater_old : lt_z (short a) (short b) ≡ false → short a ≡ greater a b
-  unfolding greater
-  greater_old = rw (short_is fa, short_is fb) (λ h. rw h)
-
--- a range whose ends are read and stored, and the test of its ends one after the other
-module _ {range : IndexRange} (fl : SFits w16 range.low) (fh : SFits w16 range.high) where
-  pub widened_stored : {x l h : ℤ} → SFits w16 x → SFits w16 l → SFits w16 h → l ≡ lesser (short range.low) (short x) → h ≡ greater (short range.high) (short x)
-      → ◌≡◌ {A = IndexRange} (record { low = short l; high = short h }) (widened range x)
-  unfolding widened
-  widened_stored fx gl gh e d = rw (short_is gl, short_is gh, e, d, short_is fl, short_is fh, short_is fx)
-
-  module _ (n : ℕ) {t : Bool} (e : t ≡ index_ok n (short range.low)) where
-    low_is : t ≡ index_ok n range.low
-    low_is = rw (short_is fl) at e
-
-    pub low_fails : t ≡ false → false ≡ range_ok n range
-    unfolding range_ok
-    low_fails h = rw (← low_is, h)
-
-    pub high_decides : t ≡ true → {u : Bool} → u ≡ index_ok n (short range.high) → u ≡ range_ok n range
-    unfolding range_ok
-    high_decides h = rw (← low_is, h, short_is fh) (λ d. d)
+  greater_second : b ≤ℤ int_max a b
+  greater_second = omega (arith, ints, clamps)
 
 -- ---- what lies between two that pass, passes
 
@@ -83,13 +41,11 @@ module _ (n : ℕ) where
   between_ok x y z g h s t =
       le→leb _ limit (abs_between limit (x *ℤ pos n) (y *ℤ pos n) (z *ℤ pos n) (*ℤ-mono n x y g) (*ℤ-mono n y z h) (leb→le _ limit s) (leb→le _ limit t))
 
-  lesser_ok : (a b : ℤ) → T (index_ok n a) → T (index_ok n b) → T (index_ok n (lesser a b))
-  unfolding lesser
+  lesser_ok : (a b : ℤ) → T (index_ok n a) → T (index_ok n b) → T (index_ok n (int_min a b))
   lesser_ok a b s t = cond_elim (lt_z b a) b a (λ z. T (index_ok n z)) (λ _. t) (λ _. s)
 
-  greater_ok : (a b : ℤ) → T (index_ok n a) → T (index_ok n b) → T (index_ok n (greater a b))
-  unfolding greater
-  greater_ok a b s t = cond_elim (lt_z a b) b a (λ z. T (index_ok n z)) (λ _. t) (λ _. s)
+  greater_ok : (a b : ℤ) → T (index_ok n a) → T (index_ok n b) → T (index_ok n (int_max a b))
+  greater_ok a b s t = cond_elim (lt_z b a) a b (λ z. T (index_ok n z)) (λ _. s) (λ _. t)
 
   module _ (range : IndexRange) (x : ℤ) (order : range.low ≤ℤ range.high) where
     widened_ordered : (widened range x).low ≤ℤ (widened range x).high
@@ -101,13 +57,13 @@ module _ (n : ℕ) where
     all_pass t =
         let (ends, here) = both (range_ok n range) (index_ok n x) t in
         let (low, high) = both (index_ok n range.low) (index_ok n range.high) ends in
-        both_of (index_ok n (lesser range.low x)) (index_ok n (greater range.high x)) (lesser_ok range.low x low here) (greater_ok range.high x high here)
+        both_of (index_ok n (int_min range.low x)) (index_ok n (int_max range.high x)) (lesser_ok range.low x low here) (greater_ok range.high x high here)
 
     ends_pass : T (range_ok n (widened range x)) → T (range_ok n range && index_ok n x)
     unfolding widened range_ok
     ends_pass t =
-        let a = lesser range.low x in
-        let b = greater range.high x in
+        let a = int_min range.low x in
+        let b = int_max range.high x in
         let (low, high) = both (index_ok n a) (index_ok n b) t in
         let below = lesser-first range.low x in
         let above = greater-first range.high x in

@@ -1,13 +1,15 @@
 -- What a level is predicted to be: 0 at the top, below it EXPAND of the level above; row by row as the code makes it. Assumes nothing.
 use mathlib.Core.Path.{◌≡◌, sym, ap, ◌∙◌}
-use mathlib.Core.List.{List}
+use mathlib.Core.List.{List, ◌++◌}
 use Prim.Native.Nat.{ℕ, suc, ◌+◌, ◌-◌, ◌*◌, ◌≤◌, ◌<◌}
+use native.Mathlib.Nat.{zero-add}
 use native.Mathlib.Omega.{arith}
 use lib.IntN.{ℤ, pos}
-use lib.ListN.{length}
+use lib.ListN.{length, take, drop, replicate, length-replicate}
+use lib.Seq.{length-take-le}
 use Rattle.mathematics.specs.Definitions.Tables.{tabulate}
 use Rattle.mathematics.specs.Inner.Splices.{splice, part}
-use Rattle.mathematics.proofs.Tables.{tabulate-same}
+use Rattle.mathematics.proofs.Tables.{tabulate-same, tabulate_constant}
 use Rattle.pyramid.specs.declared.Settings.{Settings}
 use Rattle.pyramid.specs.Inner.Lawful.{Lawful}
 use Rattle.pyramid.specs.Definitions.Sizes.{Level, columns_at, rows_at, nodes_at, total}
@@ -27,6 +29,11 @@ module _ (s : Settings) (l : ℕ) (g : ℕ → Level) where
   pub predicted-below : l < s.depth → (i j : ℕ) → predicted s (s.depth - l) l g i j ≡ expanded s l (g (suc l)) i j
   unfolding predicted
   predicted-below h i j = let e : s.depth - l ≡ suc (s.depth - suc l) = omega arith in rw e
+
+-- zeros written over the first n values of a row
+pub zeros_written : (n : ℕ) (row : List ℤ) → n ≤ length row → replicate (length (take n row)) (pos 0) ++ drop n row ≡ splice 0 (tabulate n (λ i. pos 0)) row
+unfolding splice
+zeros_written n row h = let t : length (take n row) ≡ n = length-take-le n row h in rw (t, tabulate_constant n (pos 0), length-replicate n (pos 0), zero-add)
 
 module _ (s : Settings) (l j : ℕ) (work row : List ℤ) where
   abbrev made : List ℤ

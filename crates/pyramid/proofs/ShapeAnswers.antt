@@ -1,14 +1,18 @@
 -- What the calls on a shape or on settings answer where these are lawful: the converse of the tests, a level's size, T. Assumes nothing.
 use mathlib.Core.Path.{◌≡◌, refl, sym, ◌∙◌}
+use mathlib.Core.Bool.{Bool, true, false, cond}
 use Prim.Native.Nat.{ℕ, ◌*◌, ◌≤◌}
-use borrow.Author.Tests.{le-leb, eq-eqb}
+use native.Mathlib.Omega.{arith}
+use borrow.Author.Tests.{le-leb, eq-eqb, leb-true}
+use lib.Dec.{leb}
 use Rattle.pyramid.specs.declared.Settings.{Settings}
+use Rattle.pyramid.specs.declared.LevelSize.{LevelSize}
 use Rattle.pyramid.specs.Definitions.Settings.{side_ok, depth_ok, divides, kernel_ok, size_ok}
 use Rattle.pyramid.specs.Definitions.Sizes.{columns_at, rows_at, nodes_at, total}
 use Rattle.pyramid.specs.Inner.Lawful.{Shaped}
 use Rattle.pyramid.specs.Definitions.Calls.{leaves}
 use Rattle.pyramid.specs.Definitions.Refusals.{unless, first, shape_refusal, settings_refusal}
-use Rattle.pyramid.specs.Definitions.Answers.{LevelSizeAnswer, NodesAnswer, DeepestAnswer, level_size_answer, nodes_answer, shape_answer, deepest_answer}
+use Rattle.pyramid.specs.Definitions.Answers.{LevelSizeAnswer, NodesAnswer, DeepestAnswer, size_of, level_size_answer, nodes_answer, shape_answer, deepest_answer}
 use Rattle.pyramid.proofs.Refusals.{leaves_new}
 use Rattle.pyramid.proofs.Sizes.{nodes_most}
 
@@ -35,6 +39,21 @@ module _ (s : Settings) (level : ℕ) (shape : Shaped s) (h : level ≤ s.depth)
   pub level_nodes : (size : LevelSizeAnswer) → size ≡ level_size_answer s level
       → (size.rows * size.columns ≡ nodes_at s level) × (size.rows * size.columns ≤ 16641)
   level_nodes size e = rw (e, level_size) (refl, nodes_most s shape level h)
+
+-- the nodes of any level, 0 above N
+pub record LevelNodes (s : Settings) (level : ℕ) (size : LevelSize) : Type 0 where
+  pub product : size.rows * size.columns ≡ cond (leb level s.depth) (nodes_at s level) 0
+  pub most : size.rows * size.columns ≤ 16641
+
+pub nodes_of_any : (s : Settings) (level : ℕ) → Shaped s → (size : LevelSize) → size ≡ size_of (level_size_answer s level) → LevelNodes s level size
+unfolding level_size_answer leaves
+nodes_of_any s level shape size e = pick (leb level s.depth) refl
+  where
+    pick : (b : Bool) → leb level s.depth ≡ b → LevelNodes s level size
+    pick true t =
+        let (product, most) = level_nodes s level shape (leb-true _ _ t) (level_size_answer s level) refl in
+        rw e (record { product = product ∙ rw t; most = most })
+    pick false f = rw e (record { product = rw (shape_accepted s shape, f); most = rw (shape_accepted s shape, f) (omega arith) })
 
 pub shape_answer_lem : (s : Settings) (answer : NodesAnswer) → answer ≡ shape_answer s → answer.refusal ≡ shape_refusal s
 unfolding shape_answer

@@ -2,9 +2,8 @@
 ghost use Rattle.std.specs.Prelude.{◌≡◌, ◌≤◌, ◌<◌};
 ghost use Rattle.pyramid.specs.Definitions.Bound.{magnified};
 ghost use Rattle.pyramid.specs.Definitions.Answers.{bound_slots};
-ghost use Rattle.pyramid.specs.Inner.Lawful.{Lawful};
 
-use crate::Settings;
+use crate::LawfulSettings;
 
 // A distance times the kernel's multiplier, rounded up: 1.96 for kernel 6, 1 for the others.
 fn magnify(kernel: u16, distance: u16) -> u16
@@ -12,25 +11,22 @@ fn magnify(kernel: u16, distance: u16) -> u16
     ensures { result ≡ magnified kernel distance }
 {
     if kernel == 6 {
-        return ((196 * distance as u32 + 99) / 100) as u16;
+        return (196 * u32::from(distance)).div_ceil(100) as u16;
     }
     distance
 }
 
 // The bound of each level in its slot.
-pub fn bound_slots(s: Settings) -> [u16; 7]
-    requires { Lawful s }
-    ensures { result ≡ bound_slots s }
+pub fn bound_slots(s: LawfulSettings) -> [u16; 7]
+    ensures { result ≡ bound_slots s.shape.settings }
 {
-    let bins = s.bins;
+    let top = usize::from(s.shape.settings.depth);
     let mut out: [u16; 7] = [0; 7];
-    let mut l = s.depth as usize;
-    let mut b = bins[l] / 2;
-    out[l] = b;
-    while 0 < l {
-        l -= 1;
-        b = magnify(s.kernel, b) + bins[l] / 2;
-        out[l] = b;
+    let mut bound = s.shape.settings.bins[top] / 2;
+    out[top] = bound;
+    for l in (0..top).rev() {
+        bound = magnify(s.shape.settings.kernel, bound) + s.shape.settings.bins[l] / 2;
+        out[l] = bound;
     }
     out
 }

@@ -6,7 +6,7 @@ ghost use Rattle.pyramid.specs.Definitions.Settings.{side_ok, size_ok, kernel_ok
 ghost use Rattle.pyramid.specs.Definitions.Depth.{deepest_depth};
 ghost use Rattle.pyramid.specs.Definitions.Refusals.{shape_refusal, settings_refusal};
 
-use crate::Settings;
+use crate::{LawfulSettings, Settings};
 use refusals::Refusal;
 
 #[tactic(auto, unfolding(crate::specs::Definitions::Settings::side_ok))]
@@ -28,8 +28,8 @@ pub fn deepest(columns: u16, rows: u16) -> u16
     requires { (1 ≤ columns) × (1 ≤ rows) }
     ensures { result ≡ deepest_depth columns rows }
 {
-    let c = u16::trailing_zeros(columns - 1);
-    let r = u16::trailing_zeros(rows - 1);
+    let c = (columns - 1).trailing_zeros();
+    let r = (rows - 1).trailing_zeros();
     c.min(r).min(6) as u16
 }
 
@@ -41,7 +41,7 @@ fn kernel_ok(kernel: u16) -> bool
 }
 
 #[tactic(auto, unfolding(crate::specs::Definitions::Settings::slot_ok))]
-fn slot_ok(depth: u16, level: u16, bin: u16) -> bool
+fn slot_ok(depth: usize, level: usize, bin: u16) -> bool
     ensures { result ≡ slot_ok depth level bin }
 {
     if level <= depth {
@@ -51,16 +51,13 @@ fn slot_ok(depth: u16, level: u16, bin: u16) -> bool
     }
 }
 
-fn bins_ok(s: Settings) -> bool
+pub fn bins_ok(s: Settings) -> bool
     ensures { result ≡ bins_ok s }
 {
-    let bins = s.bins;
-    let mut l: u16 = 0;
-    while l < 7 {
-        if !slot_ok(s.depth, l, bins[l as usize]) {
+    for (level, &bin) in s.bins.iter().enumerate() {
+        if !slot_ok(usize::from(s.depth), level, bin) {
             return false;
         }
-        l += 1;
     }
     true
 }
@@ -102,9 +99,6 @@ pub fn check_shape(s: Settings) -> Result<(), Refusal>
 pub fn check_settings(s: Settings) -> Result<(), Refusal>
     ensures { result ≡ outcome (settings_refusal s) tt }
 {
-    check_shape(s)?;
-    if !bins_ok(s) {
-        return Err(Refusal::Bin);
-    }
+    LawfulSettings::new(s)?;
     Ok(())
 }

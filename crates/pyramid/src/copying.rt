@@ -15,23 +15,9 @@ pub fn load(picture: &[u8], work: &mut [i32], at: usize)
     requires { at + length picture.now ≤ length work.old }
     ensures { work.new ≡ splice at (map pos picture.now) work.old }
 {
-    let mut i = 0;
-    while i < picture.len() {
-        work[at + i] = picture[i] as i32;
-        i += 1;
+    for (i, &pixel) in picture.iter().enumerate() {
+        work[at + i] = i32::from(pixel);
     }
-}
-
-fn clamped(s: Settings, x: i32) -> u8
-    ensures { result ≡ clamp s x }
-{
-    if x < 0 {
-        return 0;
-    }
-    if x < 255 {
-        return x as u8;
-    }
-    255
 }
 
 // The final picture: every value clamped.
@@ -39,10 +25,8 @@ pub fn clamp_all(s: Settings, src: &[i32], picture: &mut [u8])
     requires { length src.now ≡ length picture.old }
     ensures { picture.new ≡ map (clamp s) src.now }
 {
-    let mut i = 0;
-    while i < src.len() {
-        picture[i] = clamped(s, src[i]);
-        i += 1;
+    for (i, &x) in src.iter().enumerate() {
+        picture[i] = x.clamp(0, 255) as u8;
     }
 }
 
@@ -59,10 +43,8 @@ pub fn index_row(averages: &[i32], predicted: &[i32], bin: u16, levels: &mut [i1
         levels.old }
 {
     let rule = quantizer::Bin::new(bin);
-    let mut i = 0;
-    while i < averages.len() {
-        levels[at + i] = rule.index(averages[i] - predicted[i]) as i16;
-        i += 1;
+    for (i, &average) in averages.iter().enumerate() {
+        levels[at + i] = rule.index(average - predicted[i]) as i16;
     }
 }
 
@@ -77,12 +59,9 @@ pub fn value_row(indices: &[i16], predicted: &[i32], bin: u16, work: &mut [i32],
         (λ i. get_or indices.now i (pos 0) *ℤ pos bin +ℤ get_or predicted.now i (pos 0)))
         work.old }
 {
-    let n = bin as i32;
-    let mut i = 0;
-    while i < indices.len() {
-        let value = indices[i] as i32 * n + predicted[i];
-        work[at + i] = value;
-        i += 1;
+    let n = i32::from(bin);
+    for (i, &index) in indices.iter().enumerate() {
+        work[at + i] = i32::from(index) * n + predicted[i];
     }
 }
 
@@ -91,10 +70,8 @@ pub fn values_within(indices: &[i16], bin: u16) -> bool
     ensures { result ≡ all (index_ok bin) indices.now }
 {
     let mut range = IndexRange { low: 0, high: 0 };
-    let mut i = 0;
-    while i < indices.len() {
-        range = ranging::widened(range, indices[i]);
-        i += 1;
+    for &index in indices {
+        range = ranging::widened(range, index);
     }
     ranging::range_ok(range, bin)
 }

@@ -2,7 +2,6 @@
 ghost use Rattle.std.specs.Prelude.{◌≡◌, suc, ◌+◌, ◌-◌, ◌≤◌, ◌<◌, pos, nat_abs, length, leb};
 ghost use Rattle.mathematics.specs.Definitions.Tables.{tabulate};
 ghost use Rattle.mathematics.specs.Inner.Splices.{splice};
-ghost use Rattle.pyramid.specs.Inner.Lawful.{Lawful};
 ghost use Rattle.pyramid.specs.Definitions.Sizes.{columns_at, rows_at, total};
 ghost use Rattle.pyramid.specs.Definitions.Pyramid.{reduced, average};
 ghost use Rattle.pyramid.specs.Definitions.Rebuilding.{value_of, rebuilt};
@@ -12,177 +11,145 @@ ghost use Rattle.pyramid.specs.Definitions.Refusals.{limit, values_ok};
 ghost use Rattle.pyramid.specs.Inner.Ranges.{CodingRanges, RebuildingRanges};
 ghost use Rattle.pyramid.specs.Inner.Layers.{predicted, index_at, value_at, LevelSmall, IndexLevel, Holds, ValueLevel};
 
-use crate::{Settings, averaging, copying, counting, expanding};
+use crate::{LawfulSettings, averaging, copying, expanding};
 
 // The averages of the level above l, from those of level l.
-fn average_level(s: Settings, l: u16, work: &mut [i32])
-    requires lawful { Lawful s }
-    requires l_lt_depth { (l < s.depth) × (total s ≤ length work.old) }
-    requires level_small { LevelSmall s l 4096 work.old }
+fn average_level(s: LawfulSettings, l: u16, work: &mut [i32])
+    requires l_lt_depth { (l < s.shape.settings.depth) × (total s.shape.settings ≤ length work.old) }
+    requires level_small { LevelSmall s.shape.settings l 4096 work.old }
     ensures { work.new ≡
-        splice (start s (suc l)) (level_raster s (λ _. reduced s l (read_levels s work.old l)) (suc l))
+        splice (start s.shape.settings (suc l)) (level_raster s.shape.settings (λ _. reduced s.shape.settings l (read_levels s.shape.settings work.old l)) (suc l))
         work.old }
 {
-    let from = counting::start_of(s, l);
-    let columns = counting::columns_at(s, l);
-    let rows = counting::rows_at(s, l);
-    averaging::reduce_level(work, from, columns, rows, s.kernel);
+    let from = s.shape.start_of(l);
+    let columns = s.shape.columns_at(l);
+    let rows = s.shape.rows_at(l);
+    averaging::reduce_level(work, from, columns, rows, s.shape.settings.kernel);
 }
 
 // The averages of all levels, from the picture at its place.
-pub fn average_levels(s: Settings, work: &mut [i32])
-    requires lawful { Lawful s }
-    requires s_in_bounds { total s ≤ length work.old }
-    requires coding_ranges { CodingRanges s (read_levels s work.old 0) }
+pub fn average_levels(s: LawfulSettings, work: &mut [i32])
+    requires s_in_bounds { total s.shape.settings ≤ length work.old }
+    requires coding_ranges { CodingRanges s.shape.settings (read_levels s.shape.settings work.old 0) }
     ensures { work.new ≡
-        splice 0 (all_levels s (average s (read_levels s work.old 0))) work.old }
+        splice 0 (all_levels s.shape.settings (average s.shape.settings (read_levels s.shape.settings work.old 0))) work.old }
 {
-    let mut l: u16 = 0;
-    while l < s.depth {
+    for l in 0..s.shape.settings.depth {
         average_level(s, l, work);
-        l += 1;
-    }
-}
-
-fn zero_row(row: &mut [i32], n: usize)
-    requires { n ≤ length row.old }
-    ensures { row.new ≡ splice 0 (tabulate n (λ i. pos 0)) row.old }
-{
-    let mut i = 0;
-    while i < n {
-        row[i] = 0;
-        i += 1;
     }
 }
 
 // What row j of level l, which starts at `from`, is predicted to be: EXPAND of the level above it, or 0 at the top.
-fn predict_row(s: Settings, l: u16, from: usize, j: usize, work: &[i32], row: &mut [i32])
-    requires lawful { Lawful s }
-    requires l_le_depth { (l ≤ s.depth) × (j < rows_at s l) × (total s ≤ length work.now)
-        × (columns_at s l ≤ length row.old) × (from ≡ start s l) }
-    requires level_small { LevelSmall s (suc l) 524288 work.now }
+fn predict_row(s: LawfulSettings, l: u16, from: usize, j: usize, work: &[i32], row: &mut [i32])
+    requires l_le_depth { (l ≤ s.shape.settings.depth) × (j < rows_at s.shape.settings l) × (total s.shape.settings ≤ length work.now)
+        × (columns_at s.shape.settings l ≤ length row.old) × (from ≡ start s.shape.settings l) }
+    requires level_small { LevelSmall s.shape.settings (suc l) 524288 work.now }
     ensures { row.new ≡
-        splice 0 (tabulate (columns_at s l)
-        (λ i. predicted s (s.depth - l) l (read_levels s work.now) i j)) row.old }
+        splice 0 (tabulate (columns_at s.shape.settings l)
+        (λ i. predicted s.shape.settings (s.shape.settings.depth - l) l (read_levels s.shape.settings work.now) i j)) row.old }
 {
-    if l == s.depth {
-        zero_row(row, counting::columns_at(s, l));
+    if l == s.shape.settings.depth {
+        row[..s.shape.columns_at(l)].fill(0);
     } else {
-        let columns = counting::columns_at(s, l + 1);
-        let rows = counting::rows_at(s, l + 1);
+        let columns = s.shape.columns_at(l + 1);
+        let rows = s.shape.rows_at(l + 1);
         let above = from - rows * columns;
-        expanding::expand_row(&work[above..from], columns, rows, j, s.kernel, row);
+        expanding::expand_row(
+            &work[above..from],
+            columns,
+            rows,
+            j,
+            s.shape.settings.kernel,
+            row,
+        );
     }
 }
 
 // The indices of level l, from the averages.
-fn index_level(s: Settings, l: u16, work: &[i32], levels: &mut [i16])
-    requires lawful { Lawful s }
-    requires index_level { IndexLevel s l work.now levels.old }
+fn index_level(s: LawfulSettings, l: u16, work: &[i32], levels: &mut [i16])
+    requires { IndexLevel s.shape.settings l work.now levels.old }
     ensures { levels.new ≡
-        splice (start s l) (level_raster s (index_at s (read_levels s work.now)) l)
+        splice (start s.shape.settings l) (level_raster s.shape.settings (index_at s.shape.settings (read_levels s.shape.settings work.now)) l)
         levels.old }
 {
-    let bins = s.bins;
-    let bin = bins[l as usize];
-    let columns = counting::columns_at(s, l);
-    let rows = counting::rows_at(s, l);
+    let bin = s.shape.settings.bins[l as usize];
+    let columns = s.shape.columns_at(l);
+    let rows = s.shape.rows_at(l);
     let mut row: [i32; 129] = [0; 129];
-    let from = counting::start_of(s, l);
-    let mut at = from;
-    let mut j = 0;
-    while j < rows {
+    let from = s.shape.start_of(l);
+    for j in 0..rows {
         predict_row(s, l, from, j, work, &mut row);
+        let at = from + j * columns;
         let to = at + columns;
         copying::index_row(&work[at..to], &row, bin, levels, at);
-        at = to;
-        j += 1;
     }
 }
 
 // The indices of all levels, from the averages.
-pub fn index_levels(s: Settings, work: &[i32], levels: &mut [i16])
-    requires lawful { Lawful s }
-    requires holds { Holds s work.now levels.old }
-    ensures { levels.new ≡ all_levels s (index_at s (read_levels s work.now)) }
+pub fn index_levels(s: LawfulSettings, work: &[i32], levels: &mut [i16])
+    requires { Holds s.shape.settings work.now levels.old }
+    ensures { levels.new ≡ all_levels s.shape.settings (index_at s.shape.settings (read_levels s.shape.settings work.now)) }
 {
-    let mut l: u16 = 0;
-    index_level(s, l, work, levels);
-    while l < s.depth {
-        l += 1;
+    for l in 0..=s.shape.settings.depth {
         index_level(s, l, work, levels);
     }
 }
 
 // The rebuilt values of level l, from its indices and the rebuilt values of the level above it.
-fn value_level(s: Settings, l: u16, levels: &[i16], work: &mut [i32])
-    requires lawful { Lawful s }
-    requires value_level { ValueLevel s l levels.now work.old }
+fn value_level(s: LawfulSettings, l: u16, levels: &[i16], work: &mut [i32])
+    requires { ValueLevel s.shape.settings l levels.now work.old }
     ensures { work.new ≡
-        splice (start s l)
-        (level_raster s (value_at s (read_levels s levels.now) (read_levels s work.old)) l)
+        splice (start s.shape.settings l)
+        (level_raster s.shape.settings (value_at s.shape.settings (read_levels s.shape.settings levels.now) (read_levels s.shape.settings work.old)) l)
         work.old }
 {
-    let bins = s.bins;
-    let bin = bins[l as usize];
-    let columns = counting::columns_at(s, l);
-    let rows = counting::rows_at(s, l);
+    let bin = s.shape.settings.bins[l as usize];
+    let columns = s.shape.columns_at(l);
+    let rows = s.shape.rows_at(l);
     let mut row: [i32; 129] = [0; 129];
-    let from = counting::start_of(s, l);
-    let mut at = from;
-    let mut j = 0;
-    while j < rows {
+    let from = s.shape.start_of(l);
+    for j in 0..rows {
         predict_row(s, l, from, j, work, &mut row);
+        let at = from + j * columns;
         let to = at + columns;
         copying::value_row(&levels[at..to], &row, bin, work, at);
-        at = to;
-        j += 1;
     }
 }
 
 // The rebuilt values of all levels.
-pub fn value_levels(s: Settings, levels: &[i16], work: &mut [i32])
-    requires lawful { Lawful s }
-    requires levels_len { (length levels.now ≡ total s) × (total s ≤ length work.old) }
-    requires rebuilding_ranges { RebuildingRanges s (read_levels s levels.now) }
+pub fn value_levels(s: LawfulSettings, levels: &[i16], work: &mut [i32])
+    requires levels_len { (length levels.now ≡ total s.shape.settings) × (total s.shape.settings ≤ length work.old) }
+    requires rebuilding_ranges { RebuildingRanges s.shape.settings (read_levels s.shape.settings levels.now) }
     ensures { work.new ≡
-        splice 0 (all_levels s (rebuilt s (read_levels s levels.now))) work.old }
+        splice 0 (all_levels s.shape.settings (rebuilt s.shape.settings (read_levels s.shape.settings levels.now))) work.old }
 {
-    let mut l = s.depth;
-    value_level(s, l, levels, work);
-    while 0 < l {
-        l -= 1;
+    for l in (0..=s.shape.settings.depth).rev() {
         value_level(s, l, levels, work);
     }
 }
 
 // Every index of level l times its bin lies within 4,096 of 0.
-fn level_ok(s: Settings, l: u16, levels: &[i16]) -> bool
-    requires lawful { Lawful s }
-    requires l_le_depth { (l ≤ s.depth) × (length levels.now ≡ total s) }
+fn level_ok(s: LawfulSettings, l: u16, levels: &[i16]) -> bool
+    requires { (l ≤ s.shape.settings.depth) × (length levels.now ≡ total s.shape.settings) }
     ensures { result ≡
         all (λ v. leb (nat_abs v) limit)
-        (level_raster s (λ l i j. value_of s l (read_levels s levels.now l i j)) l) }
+        (level_raster s.shape.settings (λ l i j. value_of s.shape.settings l (read_levels s.shape.settings levels.now l i j)) l) }
 {
-    let bins = s.bins;
-    let bin = bins[l as usize];
-    let at = counting::start_of(s, l);
-    let to = at + counting::rows_at(s, l) * counting::columns_at(s, l);
+    let bin = s.shape.settings.bins[l as usize];
+    let at = s.shape.start_of(l);
+    let to = at + s.shape.rows_at(l) * s.shape.columns_at(l);
     copying::values_within(&levels[at..to], bin)
 }
 
 // Every index of every level times its bin lies within 4,096 of 0.
-pub fn values_ok(s: Settings, levels: &[i16]) -> bool
-    requires lawful { Lawful s }
-    requires levels_len { length levels.now ≡ total s }
-    ensures { result ≡ values_ok s levels.now }
+pub fn values_ok(s: LawfulSettings, levels: &[i16]) -> bool
+    requires { length levels.now ≡ total s.shape.settings }
+    ensures { result ≡ values_ok s.shape.settings levels.now }
 {
-    let mut l = s.depth;
-    while 0 < l {
+    for l in (0..=s.shape.settings.depth).rev() {
         if !level_ok(s, l, levels) {
             return false;
         }
-        l -= 1;
     }
-    level_ok(s, l, levels)
+    true
 }

@@ -1,7 +1,7 @@
 // The picture pyramid of document 01: settings, coding, rebuilding, the bound and the deepest depth.
 #![tactic(auto)]
 
-ghost use Rattle.std.specs.Prelude.{◌≡◌, [], ◌∷◌, T};
+ghost use Rattle.std.specs.Prelude.{◌≡◌, [], ◌∷◌, T, length};
 ghost use Rattle.refusals.specs.Definitions.Outcomes.{outcome};
 ghost use Rattle.pyramid.specs.Definitions.Answers.{nodes_answer, shape_answer, size_of, level_size_answer, bounds_answer, deepest_answer};
 ghost use Rattle.pyramid.specs.Definitions.Pyramid.{average, index};
@@ -9,7 +9,7 @@ ghost use Rattle.pyramid.specs.Definitions.Rebuilding.{rebuilt, clamp};
 ghost use Rattle.pyramid.specs.Definitions.Buffers.{raster, pixels, all_levels, read_levels};
 ghost use Rattle.pyramid.specs.Definitions.Refusals.{first, settings_refusal, buffers_refusal, values_ok, levels_refusal};
 ghost use Rattle.pyramid.specs.Definitions.Calls.{in_work, coding, rebuilding};
-ghost use Rattle.pyramid.specs.Inner.Accepted.{Accepted};
+ghost use Rattle.pyramid.specs.Inner.Accepted.{Sized};
 ghost use Rattle.pyramid.specs.Inner.Shapes.{lawful_settings};
 
 use refusals::Refusal;
@@ -66,7 +66,7 @@ pub fn total_nodes(s: Settings) -> Result<u16, Refusal>
     ensures { result ≡ outcome (nodes_answer s).refusal (nodes_answer s).nodes }
 {
     let lawful = LawfulSettings::new(s)?;
-    Ok(lawful.shape().nodes())
+    Ok(lawful.shape.nodes())
 }
 
 // T of a shape, whose bins are not looked at. Refused: 1, 13, 14, 15, 2.
@@ -91,7 +91,7 @@ pub fn level_bounds(s: Settings) -> Result<[u16; 7], Refusal>
     ensures { result ≡ outcome (bounds_answer s).refusal (bounds_answer s).levels }
 {
     let lawful = LawfulSettings::new(s)?;
-    Ok(bounding::bound_slots(lawful.settings))
+    Ok(bounding::bound_slots(lawful))
 }
 
 // The deepest depth that a size allows. Refused: 1, on size only.
@@ -109,13 +109,7 @@ pub fn check_levels(s: Settings, levels: &[i16]) -> Result<(), Refusal>
     ensures { result ≡ outcome (levels_refusal s levels.now) tt }
 {
     let lawful = LawfulSettings::new(s)?;
-    if levels.len() != counting::total(lawful.settings) {
-        Err(Refusal::LevelsLength)
-    } else if layering::values_ok(lawful.settings, levels) {
-        Ok(())
-    } else {
-        Err(Refusal::Index)
-    }
+    lawful.check_levels(levels)
 }
 
 // The settings, or the first rule that they or the buffers' lengths break.
@@ -128,10 +122,10 @@ fn accepted(
     ensures { lawful_settings result ≡ outcome (first (settings_refusal s ∷ buffers_refusal s picture levels work ∷ [])) s }
 {
     let lawful = LawfulSettings::new(s)?;
-    if picture != lawful.settings.rows as usize * lawful.settings.columns as usize {
+    if picture != lawful.shape.settings.rows as usize * lawful.shape.settings.columns as usize {
         return Err(Refusal::PictureLength);
     }
-    let t = counting::total(lawful.settings);
+    let t = lawful.shape.total();
     if levels != t {
         return Err(Refusal::LevelsLength);
     }
@@ -156,18 +150,17 @@ pub fn coding(
         (coding s picture.now levels.old work.old).work }
 {
     let lawful = accepted(s, picture.len(), levels.len(), work.len())?;
-    code(lawful.settings, picture, levels, work);
+    code(lawful, picture, levels, work);
     Ok(())
 }
 
-fn code(s: Settings, picture: &[u8], levels: &mut [i16], work: &mut [i32])
-    requires { Accepted s picture.now levels.old work.old }
-    ensures levels_after { levels.new ≡ all_levels s (index s (pixels s.columns picture.now)) }
+fn code(s: LawfulSettings, picture: &[u8], levels: &mut [i16], work: &mut [i32])
+    requires { Sized s.shape.settings (length picture.now) (length levels.old) (length work.old) }
+    ensures levels_after { levels.new ≡ all_levels s.shape.settings (index s.shape.settings (pixels s.shape.settings.columns picture.now)) }
     ensures work_after { work.new ≡
-        in_work s (average s (pixels s.columns picture.now)) work.old }
+        in_work s.shape.settings (average s.shape.settings (pixels s.shape.settings.columns picture.now)) work.old }
 {
-    let from = counting::start_of(s, 0);
-    copying::load(picture, work, from);
+    copying::load(picture, work, s.shape.start_of(0));
     layering::average_levels(s, work);
     layering::index_levels(s, work, levels);
 }
@@ -187,24 +180,24 @@ pub fn rebuilding(
         (rebuilding s levels.now picture.old work.old).work }
 {
     let lawful = accepted(s, picture.len(), levels.len(), work.len())?;
-    if !layering::values_ok(lawful.settings, levels) {
+    if !layering::values_ok(lawful, levels) {
         return Err(Refusal::Index);
     }
-    rebuild(lawful.settings, levels, picture, work);
+    rebuild(lawful, levels, picture, work);
     Ok(())
 }
 
-fn rebuild(s: Settings, levels: &[i16], picture: &mut [u8], work: &mut [i32])
-    requires accepted { Accepted s picture.old levels.now work.old }
-    requires t { T (values_ok s levels.now) }
+fn rebuild(s: LawfulSettings, levels: &[i16], picture: &mut [u8], work: &mut [i32])
+    requires sized { Sized s.shape.settings (length picture.old) (length levels.now) (length work.old) }
+    requires t { T (values_ok s.shape.settings levels.now) }
     ensures picture_after { picture.new ≡
-        raster s.columns s.rows
-        (λ i j. clamp s (rebuilt s (read_levels s levels.now) 0 i j)) }
+        raster s.shape.settings.columns s.shape.settings.rows
+        (λ i j. clamp s.shape.settings (rebuilt s.shape.settings (read_levels s.shape.settings levels.now) 0 i j)) }
     ensures work_after { work.new ≡
-        in_work s (rebuilt s (read_levels s levels.now)) work.old }
+        in_work s.shape.settings (rebuilt s.shape.settings (read_levels s.shape.settings levels.now)) work.old }
 {
     layering::value_levels(s, levels, work);
-    let from = counting::start_of(s, 0);
-    let to = counting::total(s);
-    copying::clamp_all(s, &work[from..to], picture);
+    let from = s.shape.start_of(0);
+    let to = s.shape.total();
+    copying::clamp_all(s.shape.settings, &work[from..to], picture);
 }

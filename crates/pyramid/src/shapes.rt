@@ -1,12 +1,13 @@
 // Settings that are known to be lawful: a type for the shape, that is all but the bins, and one for all settings.
-ghost use Rattle.std.specs.Prelude.{◌≡◌};
+ghost use Rattle.std.specs.Prelude.{◌≡◌, [], ◌∷◌, cond, leb, eqb, length};
 ghost use Rattle.refusals.specs.Definitions.Outcomes.{outcome};
-ghost use Rattle.pyramid.specs.Definitions.Refusals.{shape_refusal, settings_refusal};
-ghost use Rattle.pyramid.specs.Definitions.Sizes.{total};
+ghost use Rattle.pyramid.specs.Definitions.Settings.{bins_ok};
+ghost use Rattle.pyramid.specs.Definitions.Refusals.{unless, first, shape_refusal, settings_refusal, values_ok};
+ghost use Rattle.pyramid.specs.Definitions.Sizes.{nodes_at, total};
 ghost use Rattle.pyramid.specs.Definitions.Answers.{size_of, level_size_answer};
 ghost use Rattle.pyramid.specs.Inner.Lawful.{Shaped, Lawful};
 
-use crate::{LevelSize, Settings, checking, counting};
+use crate::{LevelSize, Settings, checking, layering};
 use refusals::Refusal;
 
 // Settings whose shape is lawful.
@@ -17,7 +18,7 @@ pub struct Shape {
 }
 
 impl Shape {
-    ghost use Rattle.pyramid.specs.Inner.Shapes.{shape_settings};
+    ghost use Rattle.pyramid.specs.Inner.Shapes.{shape_settings, lawful_settings};
 
     // The settings, or the first rule that the shape breaks. The bins are not looked at.
     pub fn new(s: Settings) -> Result<Shape, Refusal>
@@ -31,7 +32,17 @@ impl Shape {
     pub fn nodes(self) -> u16
         ensures { result ≡ total self.settings }
     {
-        counting::total(self.settings) as u16
+        self.total() as u16
+    }
+
+    // The settings, where the bins are lawful too. Refused: 3.
+    pub fn lawful(self) -> Result<LawfulSettings, Refusal>
+        ensures { lawful_settings result ≡ outcome (unless (bins_ok self.settings) 3) self.settings }
+    {
+        if !checking::bins_ok(self.settings) {
+            return Err(Refusal::Bin);
+        }
+        Ok(LawfulSettings { shape: self })
     }
 
     // The columns and rows of a level; 0 by 0 for a level above the depth.
@@ -45,17 +56,25 @@ impl Shape {
             };
         }
         LevelSize {
-            columns: counting::columns_at(self.settings, level) as u16,
-            rows: counting::rows_at(self.settings, level) as u16,
+            columns: self.columns_at(level) as u16,
+            rows: self.rows_at(level) as u16,
         }
+    }
+
+    // The number of nodes of a level; 0 for a level above the depth.
+    pub fn level_nodes(self, level: u16) -> u16
+        ensures { result ≡ cond (leb level self.settings.depth) (nodes_at self.settings level) 0 }
+    {
+        let size = self.level_size(level);
+        size.rows * size.columns
     }
 }
 
-// Lawful settings.
+// A lawful shape with lawful bins: lawful settings.
 #[derive(Clone, Copy)]
 pub struct LawfulSettings {
-    pub settings: Settings,
-    pub ghost lawful: { Lawful settings },
+    pub shape: Shape,
+    pub ghost lawful: { Lawful shape.settings },
 }
 
 impl LawfulSettings {
@@ -65,15 +84,21 @@ impl LawfulSettings {
     pub fn new(s: Settings) -> Result<LawfulSettings, Refusal>
         ensures { lawful_settings result ≡ outcome (settings_refusal s) s }
     {
-        checking::check_settings(s)?;
-        Ok(LawfulSettings { settings: s })
+        let shape = Shape::new(s)?;
+        shape.lawful()
     }
 
-    pub fn shape(self) -> Shape
-        ensures { result.settings ≡ self.settings }
+    // Whether rebuilding can take a level buffer. Refused: 6, 11.
+    pub fn check_levels(self, levels: &[i16]) -> Result<(), Refusal>
+        ensures { result ≡ outcome (first (unless (eqb (length levels.now) (total self.shape.settings)) 6
+            ∷ unless (values_ok self.shape.settings levels.now) 11 ∷ [])) tt }
     {
-        Shape {
-            settings: self.settings,
+        if levels.len() != self.shape.total() {
+            Err(Refusal::LevelsLength)
+        } else if layering::values_ok(self, levels) {
+            Ok(())
+        } else {
+            Err(Refusal::Index)
         }
     }
 }

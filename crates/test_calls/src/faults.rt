@@ -1,41 +1,34 @@
 // Settings with one fault each, at both ends of every range, in every function that takes settings.
 use crate::base::BASE;
-use crate::calling::{CODING, Lengths, NO_PUT, REBUILDING};
+use crate::buffers::Lengths;
+use crate::calling::Call;
 use crate::{base, calling, shapes};
 use pyramid::Settings;
-use test_support::reporting::{Tally, checked};
-use test_support::{comparing, reporting};
+use refusals::answer_number;
+use test_support::reporting::Checks;
 
-// The settings by number; slot l of the bins is SLOTS + l.
-const COLUMNS: u16 = 0;
-
-const ROWS: u16 = 1;
-
-const DEPTH: u16 = 2;
-
-const KERNEL: u16 = 3;
-
-const SLOTS: u16 = 4;
+// A setting: C, R, N, k, or the bin of a slot.
+#[derive(Clone, Copy)]
+enum Setting {
+    Columns,
+    Rows,
+    Depth,
+    Kernel,
+    Bin(usize),
+}
 
 // The base settings with one set anew; with another depth every slot holds 1.
-fn with_setting(setting: u16, value: u16) -> Settings {
+fn with_setting(setting: Setting, value: u16) -> Settings {
     let mut s = BASE;
     match setting {
-        COLUMNS => {
-            s.columns = value;
-        }
-        ROWS => {
-            s.rows = value;
-        }
-        DEPTH => {
+        Setting::Columns => s.columns = value,
+        Setting::Rows => s.rows = value,
+        Setting::Depth => {
             s.depth = value;
             s.bins = [1; 7];
         }
-        KERNEL => {
-            s.kernel = value;
-        }
-        _ => {
-            let slot = (setting - SLOTS) as usize;
+        Setting::Kernel => s.kernel = value,
+        Setting::Bin(slot) => {
             if slot < 7 {
                 s.bins[slot] = value;
             }
@@ -44,146 +37,132 @@ fn with_setting(setting: u16, value: u16) -> Settings {
     s
 }
 
-// T is answered with 0 where the settings are refused.
+// T, where the settings are not refused.
 fn nodes_give(s: Settings, answer: u16) -> bool {
     let t = pyramid::total_nodes(s);
-    let mut nodes = base::NODES;
-    if answer != 0 {
-        nodes = 0;
-    }
-    t.refusal == answer && t.nodes as usize == nodes
+    answer_number(t) == answer
+        && t.is_ok_and(|nodes| usize::from(nodes) == base::NODES) == (answer == 0)
 }
 
 // The bounds, or seven zeros where the settings are refused.
 fn bounds_give(s: Settings, answer: u16, bounds: [u16; 7]) -> bool {
     let b = pyramid::level_bounds(s);
-    let slots = b.levels;
-    b.refusal == answer && comparing::slots(slots, bounds) == 7
+    answer_number(b) == answer && b.unwrap_or([0; 7]) == bounds
 }
 
 // The answer of all functions, with buffers of the lengths of the settings without the fault.
-pub(crate) fn answered(t: Tally, s: Settings, answer: u16, bounds: [u16; 7]) -> Tally {
+pub(crate) fn check(t: &mut Checks, s: Settings, answer: u16, bounds: [u16; 7]) {
     let n = Lengths {
         picture: base::PIXELS,
         levels: base::NODES,
         work: base::NODES,
     };
-    let mut u = checked(t, nodes_give(s, answer));
-    u = checked(u, bounds_give(s, answer, bounds));
-    u = checked(u, calling::gives(CODING, s, n, NO_PUT, answer));
-    u = checked(u, calling::gives(REBUILDING, s, n, NO_PUT, answer));
-    shapes::answered(u, s, answer)
+    t.check(nodes_give(s, answer));
+    t.check(bounds_give(s, answer, bounds));
+    t.check(calling::gives(Call::Coding, s, n, None, answer));
+    t.check(calling::gives(Call::Rebuilding, s, n, None, answer));
+    shapes::check(t, s, answer);
 }
 
 // The answer to another C or R than 9 and 5: no other that is tried is a multiple of 4 and 1 more.
 fn answer_to_side(value: u16, undivided: u16) -> u16 {
     if 2 <= value && value <= 129 {
-        return undivided;
+        undivided
+    } else {
+        1
     }
-    1
 }
 
 // The answer to another N than 2: of C - 1, 8, and R - 1, 4, it is R - 1 that 2 to the third does not divide.
 fn answer_to_depth(value: u16) -> u16 {
     if 6 < value {
-        return 13;
+        13
+    } else if 3 < value {
+        14
+    } else {
+        15
     }
-    if 3 < value {
-        return 14;
-    }
-    15
+}
+
+fn answer_to_kernel(value: u16) -> u16 {
+    if 3 <= value && value <= 6 { 0 } else { 2 }
+}
+
+// The answer to another bin: in a slot up to N = 2 it is to be 1 to 255, and above 0.
+fn answer_to_bin(slot: usize, value: u16) -> u16 {
+    let is_lawful = if slot <= 2 {
+        1 <= value && value <= 255
+    } else {
+        value == 0
+    };
+    if is_lawful { 0 } else { 3 }
 }
 
 // The answer to a setting in place of the lawful one: 9 by 5, N = 2. No other C, R or N that is tried is lawful.
-fn answer_to(setting: u16, value: u16) -> u16 {
+fn answer_to(setting: Setting, value: u16) -> u16 {
     match setting {
-        COLUMNS => {
-            return answer_to_side(value, 14);
-        }
-        ROWS => {
-            return answer_to_side(value, 15);
-        }
-        DEPTH => {
-            return answer_to_depth(value);
-        }
-        _ => {}
+        Setting::Columns => answer_to_side(value, 14),
+        Setting::Rows => answer_to_side(value, 15),
+        Setting::Depth => answer_to_depth(value),
+        Setting::Kernel => answer_to_kernel(value),
+        Setting::Bin(slot) => answer_to_bin(slot, value),
     }
-    if setting == KERNEL {
-        if 3 <= value && value <= 6 {
-            return 0;
-        }
-        return 2;
-    }
-    let is_bin = 1 <= value && value <= 255;
-    if setting <= SLOTS + 2 && is_bin {
-        return 0;
-    }
-    if SLOTS + 2 < setting && value == 0 {
-        return 0;
-    }
-    3
 }
 
-// The bounds of a lawful bin in a slot that has one: half of it, rounded down, and the bounds of the levels below rise with it.
-fn bounds_with(setting: u16, bin: u16) -> [u16; 7] {
-    if bin == 1 {
-        return match setting {
-            SLOTS => [1, 1, 0, 0, 0, 0, 0],
-            5 => [1, 0, 0, 0, 0, 0, 0],
-            _ => [2, 1, 0, 0, 0, 0, 0],
-        };
-    }
-    match setting {
-        SLOTS => [128, 1, 0, 0, 0, 0, 0],
-        5 => [128, 127, 0, 0, 0, 0, 0],
+// The bounds of the bins 3, 2 and 1.
+const BOUNDS: [u16; 7] = [2, 1, 0, 0, 0, 0, 0];
+
+// The bounds with a bin of 1 or 255 in a slot: half of it, rounded down, and the bounds of the levels below rise with it.
+fn bounds_with(slot: usize, bin: u16) -> [u16; 7] {
+    match (slot, bin) {
+        (_, 0) => BOUNDS,
+        (0, 1) => [1, 1, 0, 0, 0, 0, 0],
+        (1, 1) => [1, 0, 0, 0, 0, 0, 0],
+        (_, 1) => [2, 1, 0, 0, 0, 0, 0],
+        (0, _) => [128, 1, 0, 0, 0, 0, 0],
+        (1, _) => [128, 127, 0, 0, 0, 0, 0],
         _ => [129, 128, 127, 0, 0, 0, 0],
     }
 }
 
-// The bounds with a setting in place of the lawful one. Of the bins 3, 2 and 1 they are 2, 1 and 0; for k = 6, whose multiplier
-// is 1.96, rounded up, 3, 1 and 0. A refusal holds zeros.
-fn bounds_to(setting: u16, value: u16) -> [u16; 7] {
+// The bounds with a setting in place of the lawful one. For k = 6, whose multiplier is 1.96, rounded up, they are 3, 1 and 0. A
+// refusal holds zeros.
+fn bounds_to(setting: Setting, value: u16) -> [u16; 7] {
     if answer_to(setting, value) != 0 {
         return [0; 7];
     }
-    if setting == KERNEL && value == 6 {
-        return [3, 1, 0, 0, 0, 0, 0];
+    match (setting, value) {
+        (Setting::Kernel, 6) => [3, 1, 0, 0, 0, 0, 0],
+        (Setting::Bin(slot), bin) => bounds_with(slot, bin),
+        _ => BOUNDS,
     }
-    if SLOTS <= setting && value != 0 {
-        return bounds_with(setting, value);
-    }
-    [2, 1, 0, 0, 0, 0, 0]
 }
 
 // A setting with each of some values.
-fn each(t: Tally, setting: u16, values: &[u16]) -> Tally {
-    let mut u = t;
-    let mut i = 0;
-    while i < values.len() {
-        let value = values[i];
-        let s = with_setting(setting, value);
-        u = answered(u, s, answer_to(setting, value), bounds_to(setting, value));
-        i += 1;
+fn check_each(t: &mut Checks, setting: Setting, values: &[u16]) {
+    for value in values {
+        let answer = answer_to(setting, *value);
+        let bounds = bounds_to(setting, *value);
+        check(t, with_setting(setting, *value), answer, bounds);
     }
-    u
 }
 
-// Each slot of the bins with each of some values.
-fn each_slot(t: Tally) -> Tally {
-    let mut u = t;
-    let mut setting = SLOTS;
-    while setting < SLOTS + 7 {
-        u = each(u, setting, &[0, 1, 255, 256, 65535]);
-        setting += 1;
+pub(crate) fn all() -> Checks {
+    let mut t = Checks::new();
+    check_each(
+        &mut t,
+        Setting::Columns,
+        &[0, 1, 130, 133, 257, 65535, 8, 10, 7, 11],
+    );
+    check_each(
+        &mut t,
+        Setting::Rows,
+        &[0, 1, 130, 133, 257, 65535, 4, 6, 7, 3],
+    );
+    check_each(&mut t, Setting::Depth, &[3, 4, 6, 7, 8, 16, 32, 65535]);
+    check_each(&mut t, Setting::Kernel, &[0, 1, 2, 3, 4, 5, 6, 7, 8, 65535]);
+    for slot in 0..7 {
+        check_each(&mut t, Setting::Bin(slot), &[0, 1, 255, 256, 65535]);
     }
-    u
-}
-
-pub(crate) fn all() -> Tally {
-    let mut u = reporting::empty();
-    u = each(u, COLUMNS, &[0, 1, 130, 133, 257, 65535, 8, 10, 7, 11]);
-    u = each(u, ROWS, &[0, 1, 130, 133, 257, 65535, 4, 6, 7, 3]);
-    u = each(u, DEPTH, &[3, 4, 6, 7, 8, 16, 32, 65535]);
-    u = each(u, KERNEL, &[0, 1, 2, 3, 4, 5, 6, 7, 8, 65535]);
-    each_slot(u)
+    t
 }

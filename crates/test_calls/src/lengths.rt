@@ -1,8 +1,9 @@
 // Buffers of other lengths than the settings ask for. Only the work buffer may be longer.
 use crate::base::BASE;
+use crate::buffers::{Lengths, Put};
 use crate::calling;
-use crate::calling::{CODING, Lengths, NO_PUT, Put, REBUILDING};
-use test_support::reporting::{Tally, checked, empty};
+use crate::calling::Call;
+use test_support::reporting::Checks;
 
 // At bin 3 index 5 is 15, which with 200 is 215.
 const PUT: Put = Put {
@@ -12,27 +13,32 @@ const PUT: Put = Put {
     pixel: 215,
 };
 
-// Both calls with buffers of these lengths.
-fn answered(t: Tally, picture: usize, levels: usize, work: usize, answer: u16) -> Tally {
-    let n = Lengths {
-        picture: picture,
-        levels: levels,
-        work: work,
-    };
-    let u = checked(t, calling::gives(CODING, BASE, n, NO_PUT, answer));
-    checked(u, calling::gives(REBUILDING, BASE, n, PUT, answer))
-}
+// The lengths, and the answer to them.
+const ANSWERS: [(usize, usize, usize, u16); 11] = [
+    (45, 66, 66, 0),
+    (44, 66, 66, 5),
+    (46, 66, 66, 5),
+    (0, 66, 66, 5),
+    (45, 65, 66, 6),
+    (45, 67, 67, 6),
+    (45, 0, 66, 6),
+    (45, 66, 65, 7),
+    (45, 66, 0, 7),
+    (45, 66, 67, 0),
+    (45, 66, 72, 0),
+];
 
-pub(crate) fn all() -> Tally {
-    let mut u = answered(empty(), 45, 66, 66, 0);
-    u = answered(u, 44, 66, 66, 5);
-    u = answered(u, 46, 66, 66, 5);
-    u = answered(u, 0, 66, 66, 5);
-    u = answered(u, 45, 65, 66, 6);
-    u = answered(u, 45, 67, 67, 6);
-    u = answered(u, 45, 0, 66, 6);
-    u = answered(u, 45, 66, 65, 7);
-    u = answered(u, 45, 66, 0, 7);
-    u = answered(u, 45, 66, 67, 0);
-    answered(u, 45, 66, 72, 0)
+// Both calls with buffers of each length.
+pub(crate) fn all() -> Checks {
+    let mut t = Checks::new();
+    for (picture, levels, work, answer) in ANSWERS {
+        let n = Lengths {
+            picture,
+            levels,
+            work,
+        };
+        t.check(calling::gives(Call::Coding, BASE, n, None, answer));
+        t.check(calling::gives(Call::Rebuilding, BASE, n, Some(PUT), answer));
+    }
+    t
 }

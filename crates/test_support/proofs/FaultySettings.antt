@@ -7,8 +7,8 @@ use lib.Dec.{T, eqb}
 use Rattle.mathematics.specs.Definitions.Tests.{all_below}
 use Rattle.pyramid.specs.declared.Settings.{Settings}
 use Rattle.pyramid.specs.Definitions.Settings.{side_ok, size_ok, depth_ok, divides, kernel_ok, slot_ok, bins_ok}
-use Rattle.test_support.specs.Definitions.FaultSets.{chosen, member}
-use Rattle.test_support.specs.Definitions.FaultySettings.{side_with, with_sides, with_depth, with_kernel, with_bins, with_faults}
+use Rattle.test_support.specs.Definitions.FaultSets.{chosen}
+use Rattle.test_support.specs.Definitions.FaultySettings.{with_faults}
 
 abbrev fails : Bool → ℕ → List ℕ
 fails holds number = cond holds [] (number ∷ [])
@@ -39,5 +39,5 @@ base columns rows depth bins = record { columns = columns; rows = rows; depth = 
 
 -- 9 by 5, N = 2, of test_calls; piece A, 3 by 3, N = 1, of test_files
 pub faults_exact : Exact (base 9 5 2 (3 ∷ 2 ∷ 1 ∷ 0 ∷ 0 ∷ 0 ∷ 0 ∷ [])) × Exact (base 3 3 1 (10 ∷ 4 ∷ 0 ∷ 0 ∷ 0 ∷ 0 ∷ 0 ∷ []))
-unfolding all_below side_ok size_ok depth_ok divides kernel_ok slot_ok bins_ok chosen member side_with with_sides with_depth with_kernel with_bins with_faults
+unfolding all_below side_ok size_ok depth_ok divides kernel_ok slot_ok bins_ok
 faults_exact = (tt, tt)

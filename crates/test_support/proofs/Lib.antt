@@ -1,7 +1,5 @@
 mod Searching
-mod Numbers
 mod Filled
 mod Choosing
-mod Variants
 mod FaultySettings
 mod Taking

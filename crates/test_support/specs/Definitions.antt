@@ -1,4 +1,3 @@
-pub mod Searches
 pub mod Numbers
 pub mod Fillers
 pub mod Comparisons

@@ -1,86 +1,76 @@
-// The first of n places at which two things differ, or n. A place that one of the two does not have counts as different.
-ghost use Rattle.std.specs.Prelude.{◌≡◌, ◌≤◌, min};
-ghost use Rattle.std.specs.Int.{w16, w32};
-ghost use Rattle.test_support.specs.Definitions.Comparisons.{first_difference, first_other, first_other_index};
+// The first of some places at which two things differ. A place that one of the two does not have counts as different.
+ghost use Rattle.std.specs.Prelude.{◌≡◌, ℕ, Bool, Some, ◌<◌, ◌≤◌, ◌&&◌, ltb, length, ◌*◌, ◌/◌, slice_get};
+ghost use Rattle.std.specs.Ordering.{int_eq};
+ghost use Rattle.test_support.specs.Definitions.Comparisons.{Gives, is_same, first_failure, first_difference, first_other, first_other_index};
+ghost use Rattle.test_support.specs.Definitions.Numbers.{signed16};
 
 use crate::decoding;
+use std::ops::Range;
 
-// The lesser of two numbers of places.
-pub fn least(a: usize, b: usize) -> usize
-    ensures { (result ≡ min a b) × (result ≤ a) × (result ≤ b) }
+// The first place that fails a test.
+pub fn first_failure<P: Fn(usize) -> bool>(places: Range<usize>, test: P) -> Option<usize>
+    requires { (k : ℕ) → places.start ≤ k → k < places.end → P.pre test k }
+    ensures { (passes : ℕ → Bool) → Gives places.end (P.post test) passes → result ≡ first_failure places.start places.end passes }
 {
-    if a < b { a } else { b }
-}
-
-pub fn bytes(a: &[u8], b: &[u8], n: usize) -> usize
-    ensures { result ≡ first_difference n a.now b.now }
-{
-    let m = least(n, least(a.len(), b.len()));
-    let mut i = 0;
-    while i < m {
-        if a[i] != b[i] {
-            return i;
+    for i in places.start..places.end {
+        if !test(i) {
+            return Some(i);
         }
-        i += 1;
     }
-    m
+    None
 }
 
-// The indices of two level buffers.
-pub fn levels(a: &[i16], b: &[i16], n: usize) -> usize
-    ensures { result ≡ first_other w16 n a.now b.now }
+// Whether two buffers both have a place, and hold the same there.
+fn is_same<T: PartialEq>(a: &[T], b: &[T], i: usize) -> bool
+    ensures { result ≡ is_same T.eq (slice_get a.now i) (slice_get b.now i) }
 {
-    let m = least(n, least(a.len(), b.len()));
-    let mut i = 0;
-    while i < m {
-        if a[i] != b[i] {
-            return i;
-        }
-        i += 1;
+    match (a.get(i), b.get(i)) {
+        (Some(x), Some(y)) => x == y,
+        _ => false,
     }
-    m
 }
 
-// The numbers of two work buffers.
-pub fn work(a: &[i32], b: &[i32], n: usize) -> usize
-    ensures { result ≡ first_other w32 n a.now b.now }
+// Whether a buffer has a place, and holds this there.
+fn holds<T: PartialEq>(buffer: &[T], i: usize, expected: &T) -> bool
+    ensures { result ≡ is_same T.eq (slice_get buffer.now i) (Some expected.now) }
 {
-    let m = least(n, least(a.len(), b.len()));
-    let mut i = 0;
-    while i < m {
-        if a[i] != b[i] {
-            return i;
-        }
-        i += 1;
-    }
-    m
+    buffer.get(i) == Some(expected)
 }
 
-// The indices that bytes hold, and those of a level buffer.
-pub fn indices(bytes: &[u8], levels: &[i16], n: usize) -> usize
+// Of the first n places, the first at which two buffers differ.
+pub fn first_difference<T: PartialEq>(a: &[T], b: &[T], n: usize) -> Option<usize>
+    ensures { result ≡ first_difference T.eq n a.now b.now }
+{
+    first_failure(0..n, |i| is_same(a, b, i))
+}
+
+// The first place that does not hold what is expected there.
+pub fn first_other<T: PartialEq + Copy, F: Fn(usize) -> T>(
+    buffer: &[T],
+    places: Range<usize>,
+    expected: F,
+) -> Option<usize>
+    requires { (k : ℕ) → places.start ≤ k → k < places.end → F.pre expected k }
+    ensures { (f : ℕ → T) → Gives places.end (F.post expected) f → result ≡ first_other T.eq places.start places.end f buffer.now }
+{
+    first_failure(
+        places,
+        |i|
+            requires { F.pre expected i }
+        { holds(buffer, i, &expected(i)) },
+    )
+}
+
+// Whether bytes hold the index of a place.
+fn is_index(bytes: &[u8], levels: &[i16], i: usize) -> bool
+    ensures { result ≡ (ltb i (length bytes.now / 2) && is_same int_eq (slice_get levels.now i) (Some (signed16 bytes.now (2 * i)))) }
+{
+    i < bytes.len() / 2 && holds(levels, i, &decoding::signed16_at(bytes, 2 * i))
+}
+
+// Of the first n places, the first at which a level buffer differs from the indices that bytes hold.
+pub fn indices(bytes: &[u8], levels: &[i16], n: usize) -> Option<usize>
     ensures { result ≡ first_other_index n bytes.now levels.now }
 {
-    let m = least(n, least(bytes.len() / 2, levels.len()));
-    let mut i = 0;
-    while i < m {
-        if levels[i] != decoding::signed16_at(bytes, 2 * i) {
-            return i;
-        }
-        i += 1;
-    }
-    m
-}
-
-// The seven slots of bins or bounds.
-pub fn slots(a: [u16; 7], b: [u16; 7]) -> usize
-    ensures { result ≡ first_difference 7 a b }
-{
-    let mut i = 0;
-    while i < 7 {
-        if a[i] != b[i] {
-            return i;
-        }
-        i += 1;
-    }
-    7
+    first_failure(0..n, |i| is_index(bytes, levels, i))
 }

@@ -1,16 +1,16 @@
 // Reads the cases of a program's data.
-ghost use Rattle.std.specs.Prelude.{◌≡◌, true, false, ◌*◌, ◌/◌, ◌≤◌, ◌<◌, min, length, take, drop, IfOk};
+ghost use Rattle.std.specs.Prelude.{◌≡◌, ◌≢◌, true, false, ◌*◌, ◌/◌, ◌≤◌, ◌<◌, min, length, take, drop, IfOk};
 ghost use Rattle.std.specs.Io.KnownBytes.{Consumes, IsAtEnd};
 ghost use Rattle.mathematics.specs.Definitions.Tables.{tabulate};
 ghost use Rattle.mathematics.specs.Inner.Splices.{splice};
 ghost use Rattle.test_support.specs.Definitions.Numbers.{signed16};
 
-use crate::{comparing, decoding, reporting};
+use crate::{decoding, fillers};
 use std::io;
 use std::io::Read;
 
 // Reads until a buffer is full or the data ends, and answers how many bytes were read, to the buffer's start.
-fn read_full<R: Read>(source: &mut R, bytes: &mut [u8]) -> io::Result<usize>
+pub fn read_full<R: Read>(source: &mut R, bytes: &mut [u8]) -> io::Result<usize>
     ensures bound { IfOk result (λ n. n ≤ length bytes.new) }
     ensures taken { IfOk result (λ n. Consumes (R.remaining source.old) (R.remaining source.new) (take n bytes.new)) }
     ensures end { IfOk result (λ n. n < length bytes.new → IsAtEnd (R.remaining source.new)) }
@@ -40,31 +40,35 @@ pub fn read_exactly<R: Read>(source: &mut R, bytes: &mut [u8], n: usize) -> io::
     Ok(read_full(source, &mut bytes[0..n])? == n)
 }
 
-// Fills a buffer with the start of the next case. The answer is AGREES, or DATA_ENDS where no case is left, or CASE_CUT.
-pub fn read_head<R: Read>(source: &mut R, head: &mut [u8]) -> io::Result<u16>
+// What the start of the next case is read to be: whole; nothing, since no case is left; or cut.
+#[derive(Clone, Copy, PartialEq, Eq)]
+pub enum Start {
+    Whole,
+    NoCase,
+    Cut,
+}
+
+// Fills a buffer with the start of the next case.
+pub fn read_head<R: Read>(source: &mut R, head: &mut [u8]) -> io::Result<Start>
     ensures length { length head.new ≡ length head.old }
-    ensures bound { IfOk result (λ part. part ≤ 2) }
-    ensures taken { IfOk result (λ part. part ≡ 0 → Consumes (R.remaining source.old) (R.remaining source.new) head.new) }
-    ensures end { IfOk result (λ part. 0 < part → IsAtEnd (R.remaining source.new)) }
+    ensures taken { IfOk result (λ start. start ≡ Start.Whole → Consumes (R.remaining source.old) (R.remaining source.new) head.new) }
+    ensures end { IfOk result (λ start. start ≢ Start.Whole → IsAtEnd (R.remaining source.new)) }
 {
     let got = read_full(source, head)?;
-    if got == head.len() {
-        return Ok(reporting::AGREES);
-    }
-    if got == 0 {
-        return Ok(reporting::DATA_ENDS);
-    }
-    Ok(reporting::CASE_CUT)
+    Ok(if got == head.len() {
+        Start::Whole
+    } else if got == 0 {
+        Start::NoCase
+    } else {
+        Start::Cut
+    })
 }
 
 // The bytes from a place on; none where there is no such place.
 pub fn rest(bytes: &[u8], from: usize) -> &[u8]
     ensures { result.now ≡ drop from bytes.now }
 {
-    if from <= bytes.len() {
-        return &bytes[from..];
-    }
-    &bytes[..0]
+    bytes.get(from..).unwrap_or(&[])
 }
 
 // Indices from bytes, as many as both hold.
@@ -73,10 +77,6 @@ pub fn load_indices(bytes: &[u8], levels: &mut [i16])
         splice 0 (tabulate (min (length bytes.now / 2) (length levels.old))
         (λ k. signed16 bytes.now (2 * k))) levels.old }
 {
-    let n = comparing::least(bytes.len() / 2, levels.len());
-    let mut i = 0;
-    while i < n {
-        levels[i] = decoding::signed16_at(bytes, 2 * i);
-        i += 1;
-    }
+    let n = (bytes.len() / 2).min(levels.len());
+    fillers::fill(&mut levels[..n], |i| decoding::signed16_at(bytes, 2 * i));
 }

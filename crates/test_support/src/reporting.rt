@@ -1,192 +1,155 @@
 // What a case is found to be, and the count of cases and mismatches of a group.
-ghost use Rattle.std.specs.Prelude.{◌≡◌, cond, eqb, IfOk};
-ghost use Rattle.test_support.specs.Definitions.Tallies.{differs, differs_below, next, counted};
+ghost use Rattle.std.specs.Prelude.{◌≡◌, cond, IfOk, Some, None};
+ghost use Rattle.std.specs.Option.{option_map};
+ghost use Rattle.test_support.specs.Definitions.Tallies.{empty, counted};
 
-use std::io;
+use std::fmt::Display;
 use std::io::Write;
+use std::{fmt, io};
 
-// The parts of a case that every program has; a program's own start at 3.
-pub const AGREES: u16 = 0;
-
-pub const DATA_ENDS: u16 = 1;
-
-pub const CASE_CUT: u16 = 2;
-
-// The call and the part of a case that differ, and the first place there; or AGREES. Call 0 is none.
+// The part of a case that differs, and the first place there.
 #[derive(Clone, Copy)]
-pub struct Finding {
-    pub call: u16,
-    pub part: u16,
+pub struct Finding<P> {
+    pub part: P,
     pub place: usize,
 }
 
-// The cases, how many of them differ, and the first that does. Cases are numbered from 1.
+impl<P: Display> Display for Finding<P> {
+    fn fmt<W: fmt::Write>(&self, f: &mut fmt::Formatter<W>) -> fmt::Result {
+        write!(f, "{} {}", self.part, self.place)
+    }
+}
+
+// A part of what a call answers or leaves, or of no call.
 #[derive(Clone, Copy)]
-pub struct Tally {
-    pub cases: u64,
-    pub mismatches: u64,
-    pub first_case: u64,
-    pub first: Finding,
+pub struct Spot<C, P> {
+    pub call: Option<C>,
+    pub part: P,
 }
 
-pub fn difference(part: u16, place: usize) -> Finding
-    ensures { result ≡ differs part place }
-{
-    Finding {
-        call: 0,
-        part: part,
-        place: place,
+impl<C: Display, P: Display> Display for Spot<C, P> {
+    fn fmt<W: fmt::Write>(&self, f: &mut fmt::Formatter<W>) -> fmt::Result {
+        if let Some(call) = &self.call {
+            write!(f, "{call}, ")?;
+        }
+        write!(f, "{}", self.part)
     }
 }
 
-// A difference at a place below n; no difference at n.
-pub fn compared(part: u16, place: usize, n: usize) -> Finding
-    ensures { result ≡ differs_below part place n }
-{
-    if place < n {
-        return difference(part, place);
+impl<C: Copy, P: Copy> Finding<Spot<C, P>> {
+    // The same finding, of a call.
+    pub fn of_call(self, call: C) -> Self
+        ensures { result ≡ record { part = record { call = Some call; part = self.part.part }; place = self.place } }
+    {
+        let part = Spot {
+            call: Some(call),
+            part: self.part.part,
+        };
+        Finding { part, ..self }
     }
-    difference(AGREES, 0)
+}
+
+// A part that differs at a place, where there is one.
+pub fn compared<P: Copy>(part: P, place: Option<usize>) -> Option<Finding<P>>
+    ensures { result ≡ option_map (λ k. record { part = part; place = k }) place }
+{
+    place.map(|place| Finding { part, place })
 }
 
 // A case that is cut, unless all of it was read.
-pub fn cut_unless(is_read: bool) -> Finding
-    ensures { result ≡ differs (cond is_read 0 2) 0 }
+pub fn cut_unless<P: Copy>(is_read: bool, cut: P) -> Option<Finding<P>>
+    ensures { result ≡ cond is_read None (Some (record { part = cut; place = 0 })) }
 {
-    if is_read {
-        return difference(AGREES, 0);
-    }
-    difference(CASE_CUT, 0)
+    (!is_read).then_some(Finding {
+        part: cut,
+        place: 0,
+    })
 }
 
-// The first of two findings that is a difference.
-pub fn either(f: Finding, g: Finding) -> Finding
-    ensures { result ≡ cond (eqb f.part 0) g f }
-{
-    if f.part == AGREES { g } else { f }
+// The first case that differs, by its number from 1, and what is found there.
+#[derive(Clone, Copy)]
+pub struct Mismatch<F> {
+    pub case: u64,
+    pub found: F,
 }
 
-// The same finding, of a call.
-pub fn of_call(call: u16, f: Finding) -> Finding
-    ensures { result ≡ record { call = call; part = f.part; place = f.place } }
-{
-    Finding {
-        call: call,
-        part: f.part,
-        place: f.place,
-    }
+// The cases, how many of them differ, and the first that does.
+#[derive(Clone, Copy)]
+pub struct Tally<F> {
+    pub cases: u64,
+    pub mismatches: u64,
+    pub first: Option<Mismatch<F>>,
 }
 
-pub fn empty() -> Tally
-    ensures { result ≡ record { cases = 0; mismatches = 0; first_case = 0; first = differs 0 0 } }
-{
-    let first = difference(AGREES, 0);
-    Tally {
-        cases: 0,
-        mismatches: 0,
-        first_case: 0,
-        first: first,
-    }
-}
+// A tally of checks, of which nothing is found but that they fail.
+pub type Checks = Tally<()>;
 
-fn one_more(n: u64) -> u64
-    ensures { result ≡ next n }
-{
-    if n < u64::MAX { n + 1 } else { n }
-}
-
-// One more case.
-pub fn counted(t: Tally, f: Finding) -> Tally
-    ensures { result ≡ counted t f }
-{
-    let mut u = t;
-    u.cases = one_more(t.cases);
-    if f.part == AGREES {
-        return u;
-    }
-    if t.mismatches == 0 {
-        u.mismatches = 1;
-        u.first_case = u.cases;
-        u.first = f;
-        return u;
-    }
-    u.mismatches = one_more(t.mismatches);
-    u
-}
-
-// One more check, which has no parts.
-pub fn checked(t: Tally, passed: bool) -> Tally
-    ensures { result ≡ counted t (differs (cond passed 0 3) 0) }
-{
-    if passed {
-        return counted(t, difference(AGREES, 0));
-    }
-    counted(t, difference(3, 0))
-}
-
-// Writes a name of a list whose names end in a bar each: the first is number 0. Writes nothing where there is no such name.
-fn print_name<W: Write>(out: &mut W, names: &[u8], number: u16) -> io::Result<()> {
-    let mut at = 0;
-    let mut i = 0;
-    while i < names.len() {
-        if names[i] == b'|' {
-            at += 1;
-        } else if at == number as usize {
-            out.write_all(&names[i..i + 1])?;
+impl<F: Copy> Tally<F> {
+    pub fn new() -> Self
+        ensures { result ≡ empty }
+    {
+        Tally {
+            cases: 0,
+            mismatches: 0,
+            first: None,
         }
-        i += 1;
     }
-    Ok(())
+
+    // One more case, which agrees where nothing is found.
+    pub fn count(&mut self, finding: Option<F>)
+        ensures { self.new ≡ counted self.old finding }
+    {
+        self.cases = self.cases.saturating_add(1);
+        if let Some(found) = finding {
+            let here = Mismatch {
+                case: self.cases,
+                found,
+            };
+            self.mismatches = self.mismatches.saturating_add(1);
+            self.first = self.first.or(Some(here));
+        }
+    }
 }
 
-// Writes the line of a tally, with the words before, between and after its two numbers, and the start of a second line where
-// there is a mismatch: which case is the first.
-fn print_tally<W: Write>(out: &mut W, words: &[u8], t: Tally) -> io::Result<()> {
-    print_name(out, words, 0)?;
-    write!(out, "{}", t.cases)?;
-    print_name(out, words, 1)?;
-    write!(out, "{}", t.mismatches)?;
-    print_name(out, words, 2)?;
-    if 0 < t.mismatches {
-        print_name(out, words, 3)?;
-        write!(out, "{}", t.first_case)?;
-        print_name(out, words, 4)?;
+impl Tally<()> {
+    // One more check.
+    pub fn check(&mut self, passed: bool)
+        ensures { self.new ≡ counted self.old (cond passed None (Some tt)) }
+    {
+        self.count((!passed).then_some(()));
     }
-    Ok(())
 }
 
-// Writes the line of a group of checks, which has a name in a list of names, and which check is the first that failed.
-// Answers how many failed.
-pub fn print_checks<W: Write>(out: &mut W, groups: &[u8], group: u16, t: Tally) -> io::Result<u64>
-    ensures { IfOk result (λ failed. failed ≡ t.mismatches) }
+// Writes the line of a group of checks, and which check is the first that failed. Answers how many failed.
+pub fn print_checks<W: Write>(out: &mut W, group: &str, t: &Checks) -> io::Result<u64>
+    ensures { IfOk result (λ failed. failed ≡ t.now.mismatches) }
 {
-    print_name(out, groups, group)?;
-    print_tally(out, b": | checks, | failed\n|first failed: check |\n|", t)?;
+    writeln!(out, "{group}: {} checks, {} failed", t.cases, t.mismatches)?;
+    if let Some(first) = t.first {
+        writeln!(out, "first failed: check {}", first.case)?;
+    }
     Ok(t.mismatches)
 }
 
-// Writes the line of a group of cases, and where its first mismatch is: the call, the part, which have names in lists of names,
-// and the place. Answers how many cases differ.
-pub fn print_cases<W: Write>(
+// Writes the line of a group of cases, and where its first mismatch is. Answers how many cases differ.
+pub fn print_cases<W: Write, F: Display + Copy>(
     out: &mut W,
-    group: &[u8],
-    t: Tally,
-    calls: &[u8],
-    parts: &[u8],
+    group: &str,
+    t: &Tally<F>,
 ) -> io::Result<u64>
-    ensures { IfOk result (λ mismatches. mismatches ≡ t.mismatches) }
+    ensures { IfOk result (λ mismatches. mismatches ≡ t.now.mismatches) }
 {
-    out.write_all(group)?;
-    print_tally(
+    writeln!(
         out,
-        b": | cases, | mismatches\n|first mismatch: case | at |",
-        t,
+        "{group}: {} cases, {} mismatches",
+        t.cases, t.mismatches
     )?;
-    if 0 < t.mismatches {
-        let first = t.first;
-        print_name(out, calls, first.call)?;
-        print_name(out, parts, first.part)?;
-        writeln!(out, " {}", first.place)?;
+    if let Some(first) = t.first {
+        writeln!(
+            out,
+            "first mismatch: case {} at {}",
+            first.case, first.found
+        )?;
     }
     Ok(t.mismatches)
 }

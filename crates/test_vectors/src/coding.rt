@@ -1,57 +1,48 @@
 // An accepted coding.
-use crate::sizes::{AFTER, MOST_NODES, MOST_PLACES, Sizes};
-use crate::{comparing, parts};
-use pyramid::Settings;
-use test_support::comparing::least;
-use test_support::reporting::{Finding, compared, difference};
-use test_support::{fillers, reading};
+use crate::comparing;
+use crate::parts::{Finding, Part, refused};
+use crate::shape::{AFTER, MOST_NODES, MOST_PLACES, Shape};
+use test_support::comparing::indices;
+use test_support::fillers::{fill, first_changed, index_filler, work_filler};
+use test_support::reading::rest;
+use test_support::reporting::compared;
 
-// What a coding answers and leaves. The bytes hold the indices and then the averages.
-fn compare(z: Sizes, answer: u16, bytes: &[u8], levels: &[i16], work: &[i32]) -> Finding {
-    if answer != 0 {
-        return difference(parts::CODING_ANSWER, answer as usize);
-    }
-    let nodes = z.nodes as usize;
-    let index = test_support::comparing::indices(bytes, levels, nodes);
-    if index < nodes {
-        return difference(parts::INDEX, index);
-    }
-    let averages = reading::rest(bytes, 2 * nodes);
+// What a coding leaves. The bytes hold the indices and then the averages.
+fn compare(z: Shape, bytes: &[u8], levels: &[i16], work: &[i32]) -> Option<Finding> {
+    let averages = rest(bytes, 2 * z.nodes);
     let average = comparing::averages(averages, work, z.nodes);
-    if average < nodes {
-        return difference(parts::AVERAGE, average);
-    }
-    let after = fillers::first_changed_work(work, nodes);
-    compared(parts::AFTER_AVERAGES, after, work.len())
+    let after = first_changed(work, z.nodes, work_filler);
+    compared(Part::Index, indices(bytes, levels, z.nodes))
+        .or(compared(Part::Average, average))
+        .or(compared(Part::AfterAverages, after))
 }
 
 // Codes a picture over filled buffers. The bytes hold what comes after the picture.
 fn check_lent(
-    s: Settings,
-    z: Sizes,
+    z: Shape,
     picture: &[u8],
     bytes: &[u8],
     levels: &mut [i16],
     work: &mut [i32],
-) -> Finding {
-    fillers::fill_indices(levels, false);
-    fillers::fill_work(work);
-    let answer = pyramid::coding(s, picture, levels, work);
-    compare(z, answer, bytes, levels, work)
+) -> Option<Finding> {
+    fill(levels, |i| index_filler(false, i));
+    fill(work, work_filler);
+    match pyramid::coding(z.settings, picture, levels, work) {
+        Ok(()) => compare(z, bytes, levels, work),
+        Err(refusal) => Some(refused(Part::CodingAnswer, refusal)),
+    }
 }
 
 // Codes the picture that the case starts with.
-pub(crate) fn check(s: Settings, z: Sizes, case: &[u8]) -> Finding {
+pub(crate) fn check(z: Shape, case: &[u8]) -> Option<Finding> {
     let mut levels: [i16; MOST_NODES] = [0; MOST_NODES];
     let mut work: [i32; MOST_PLACES] = [0; MOST_PLACES];
-    let pixels = least(z.pixels as usize, case.len());
-    let nodes = least(z.nodes as usize, MOST_NODES);
+    let pixels = z.pixels.min(case.len());
     check_lent(
-        s,
         z,
-        &case[0..pixels],
+        &case[..pixels],
         &case[pixels..],
-        &mut levels[0..nodes],
-        &mut work[0..nodes + AFTER],
+        &mut levels[..z.nodes],
+        &mut work[..z.nodes + AFTER],
     )
 }

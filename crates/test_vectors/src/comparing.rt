@@ -1,56 +1,40 @@
-// The first of n places at which a buffer differs from what a vector's bytes hold, or a place past them.
-use test_support::{comparing, decoding};
+// The first place at which a buffer differs from what a vector's bytes hold.
+ghost use Rattle.std.specs.Prelude.{◌≤◌};
 
-// A work buffer and the averages, of 16 bits.
-pub(crate) fn averages(bytes: &[u8], work: &[i32], n: u32) -> usize {
-    let mut i: u32 = 0;
-    while i < n {
-        let place = i as usize;
-        if work.len() <= place {
-            return place;
-        }
-        if work[place] != decoding::signed16_at(bytes, 2 * place) as i32 {
-            return place;
-        }
-        i += 1;
-    }
-    n as usize
+use test_support::comparing::first_other;
+use test_support::decoding;
+
+// Of the first n places of a work buffer, to the averages, of 16 bits.
+pub(crate) fn averages(bytes: &[u8], work: &[i32], n: usize) -> Option<usize>
+    requires { n ≤ 22359 }
+{
+    first_other(
+        work,
+        0..n,
+        |i| i32::from(decoding::signed16_at(bytes, 2 * i)),
+    )
 }
 
-// A work buffer and the values, of 32 bits.
-pub(crate) fn values(bytes: &[u8], work: &[i32], n: u32) -> usize {
-    let mut i: u32 = 0;
-    while i < n {
-        let place = i as usize;
-        if work.len() <= place {
-            return place;
-        }
-        if work[place] != decoding::signed32_at(bytes, 4 * place) {
-            return place;
-        }
-        i += 1;
-    }
-    n as usize
+// Of the first n places of a work buffer, to the values, of 32 bits.
+pub(crate) fn values(bytes: &[u8], work: &[i32], n: usize) -> Option<usize>
+    requires { n ≤ 22359 }
+{
+    first_other(work, 0..n, |i| decoding::signed32_at(bytes, 4 * i))
 }
 
 // The bound of a slot: the bytes hold level N first, and the slots above the depth hold 0.
-fn bound(bytes: &[u8], levels: u32, slot: u32) -> u16 {
+fn bound(bytes: &[u8], levels: usize, slot: usize) -> u16
+    requires { levels ≤ 7 }
+{
     if slot < levels {
-        return decoding::unsigned16_at(bytes, 2 * (levels - 1 - slot) as usize);
+        return decoding::unsigned16_at(bytes, 2 * (levels - 1 - slot));
     }
     0
 }
 
-// Of all seven slots the first whose bound differs, or 7.
-pub(crate) fn bounds(bytes: &[u8], slots: [u16; 7], levels: u32) -> usize {
-    let expected = [
-        bound(bytes, levels, 0),
-        bound(bytes, levels, 1),
-        bound(bytes, levels, 2),
-        bound(bytes, levels, 3),
-        bound(bytes, levels, 4),
-        bound(bytes, levels, 5),
-        bound(bytes, levels, 6),
-    ];
-    comparing::slots(slots, expected)
+// Of all seven slots, to the bounds.
+pub(crate) fn bounds(bytes: &[u8], slots: [u16; 7], levels: usize) -> Option<usize>
+    requires { levels ≤ 7 }
+{
+    first_other(&slots, 0..7, |slot| bound(bytes, levels, slot))
 }

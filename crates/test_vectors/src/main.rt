@@ -8,21 +8,23 @@ mod levels_cases;
 mod parts;
 mod pyramid_cases;
 mod rebuilding;
-mod sizes;
+mod shape;
 
-use cases::{LEVELS, PYRAMID};
+use cases::Kind;
 use std::{fs, io};
+use test_support::reporting;
 
 // Runs the cases of a file and writes its line.
-fn report(rt: &HostRuntime, kind: u16, path: &str) -> io::Result<()> {
+fn report(rt: &HostRuntime, kind: Kind, path: &str) -> io::Result<()> {
     let Ok(mut data) = fs::open(rt, path) else {
         return println!(rt; "{path}: cannot be opened");
     };
     let tally = cases::check_all(kind, &mut data)?;
-    parts::print(&mut rt.stdout(), path, tally)
+    reporting::print_cases(&mut rt.stdout(), path, &tally)?;
+    Ok(())
 }
 
 fn main(rt: HostRuntime) -> io::Result<()> {
-    report(&rt, PYRAMID, "pyramid.bin")?;
-    report(&rt, LEVELS, "levels.bin")
+    report(&rt, Kind::Pyramid, "pyramid.bin")?;
+    report(&rt, Kind::Levels, "levels.bin")
 }

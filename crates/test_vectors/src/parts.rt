@@ -1,47 +1,57 @@
-// The parts of a case that can differ, after those that every program has.
-use std::io;
-use std::io::Write;
+// The parts of a case that can differ.
+use refusals::Refusal;
+use std::fmt;
 use test_support::reporting;
-use test_support::reporting::Tally;
 
-pub(crate) const SETTINGS: u16 = 3;
+#[derive(Clone, Copy)]
+pub(crate) enum Part {
+    EndOfFile,
+    Settings,
+    Nodes,
+    CodingAnswer,
+    Index,
+    Average,
+    AfterAverages,
+    RebuildingAnswer,
+    Value,
+    AfterValues,
+    Pixel,
+    Bound,
+    RefusedPicture,
+    RefusedWork,
+    NodesAnswer,
+    BoundsAnswer,
+}
 
-pub(crate) const NODES: u16 = 4;
+pub(crate) type Finding = reporting::Finding<Part>;
 
-pub(crate) const CODING_ANSWER: u16 = 5;
+// A call that is refused: the place is the number.
+pub(crate) fn refused(part: Part, refusal: Refusal) -> Finding {
+    Finding {
+        part,
+        place: usize::from(u16::from(refusal)),
+    }
+}
 
-pub(crate) const INDEX: u16 = 6;
-
-pub(crate) const AVERAGE: u16 = 7;
-
-pub(crate) const AFTER_AVERAGES: u16 = 8;
-
-pub(crate) const REBUILDING_ANSWER: u16 = 9;
-
-pub(crate) const VALUE: u16 = 10;
-
-pub(crate) const AFTER_VALUES: u16 = 11;
-
-pub(crate) const PIXEL: u16 = 12;
-
-pub(crate) const BOUND: u16 = 13;
-
-pub(crate) const REFUSED_PICTURE: u16 = 14;
-
-pub(crate) const REFUSED_WORK: u16 = 15;
-
-pub(crate) const NODES_ANSWER: u16 = 16;
-
-pub(crate) const BOUNDS_ANSWER: u16 = 17;
-
-// Writes a file's line, and where its first mismatch is.
-pub(crate) fn print<W: Write>(out: &mut W, path: &str, t: Tally) -> io::Result<()> {
-    reporting::print_cases(
-        out,
-        path.as_bytes(),
-        t,
-        b"|",
-        b"||end of file|settings|number of nodes|answer of coding|index|average|work after coding, place|answer of rebuilding|rebuilt value|work after rebuilding, place|pixel|bound of slot|picture of a refused rebuilding, place|work of a refused rebuilding, place|answer of the number of nodes|answer of the bounds|",
-    )?;
-    Ok(())
+impl fmt::Display for Part {
+    fn fmt<W: fmt::Write>(&self, f: &mut fmt::Formatter<W>) -> fmt::Result {
+        f.write_str(match *self {
+            Part::EndOfFile => "end of file",
+            Part::Settings => "settings",
+            Part::Nodes => "number of nodes",
+            Part::CodingAnswer => "answer of coding",
+            Part::Index => "index",
+            Part::Average => "average",
+            Part::AfterAverages => "work after coding, place",
+            Part::RebuildingAnswer => "answer of rebuilding",
+            Part::Value => "rebuilt value",
+            Part::AfterValues => "work after rebuilding, place",
+            Part::Pixel => "pixel",
+            Part::Bound => "bound of slot",
+            Part::RefusedPicture => "picture of a refused rebuilding, place",
+            Part::RefusedWork => "work of a refused rebuilding, place",
+            Part::NodesAnswer => "answer of the number of nodes",
+            Part::BoundsAnswer => "answer of the bounds",
+        })
+    }
 }

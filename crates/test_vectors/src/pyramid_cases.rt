@@ -1,50 +1,49 @@
 // The cases of the file `pyramid`: a picture; the indices and averages of its coding; the values and the picture that are
 // rebuilt from these indices; the bounds. Both calls are accepted.
-use crate::sizes::Sizes;
-use crate::{coding, comparing, parts, rebuilding};
-use pyramid::Settings;
+use crate::parts::{Finding, Part, refused};
+use crate::shape::{MOST_BYTES, Shape};
+use crate::{coding, comparing, rebuilding};
 use std::io;
 use std::io::Read;
-use test_support::reading;
-use test_support::reporting::{Finding, compared, cut_unless, difference, either};
+use test_support::reading::{read_exactly, rest};
+use test_support::reporting::{compared, cut_unless};
 
-// The number of nodes and the bounds.
-fn check_settings(s: Settings, z: Sizes, bounds: &[u8]) -> Finding {
-    let t = pyramid::total_nodes(s);
-    if t.refusal != 0 {
-        return difference(parts::NODES_ANSWER, t.refusal as usize);
+// The number of nodes.
+fn check_nodes(z: Shape) -> Option<Finding> {
+    match pyramid::total_nodes(z.settings) {
+        Ok(nodes) if usize::from(nodes) == z.nodes => None,
+        Ok(nodes) => Some(Finding {
+            part: Part::Nodes,
+            place: usize::from(nodes),
+        }),
+        Err(refusal) => Some(refused(Part::NodesAnswer, refusal)),
     }
-    if t.nodes as u32 != z.nodes {
-        return difference(parts::NODES, t.nodes as usize);
+}
+
+// The bounds.
+fn check_bounds(z: Shape, bounds: &[u8]) -> Option<Finding> {
+    match pyramid::level_bounds(z.settings) {
+        Ok(levels) => compared(Part::Bound, comparing::bounds(bounds, levels, z.levels)),
+        Err(refusal) => Some(refused(Part::BoundsAnswer, refusal)),
     }
-    let b = pyramid::level_bounds(s);
-    if b.refusal != 0 {
-        return difference(parts::BOUNDS_ANSWER, b.refusal as usize);
-    }
-    let slots = b.levels;
-    let slot = comparing::bounds(bounds, slots, z.levels);
-    compared(parts::BOUND, slot, 7)
 }
 
 // Codes the picture of a case, and rebuilds it.
-fn check_calls(s: Settings, z: Sizes, case: &[u8]) -> Finding {
-    let pixels = z.pixels as usize;
-    let values = reading::rest(case, pixels + 4 * z.nodes as usize);
-    let coded = coding::check(s, z, case);
-    let rebuilt = rebuilding::check(s, z, 0, reading::rest(case, pixels), values);
-    either(coded, rebuilt)
+fn check_calls(z: Shape, case: &[u8]) -> Option<Finding> {
+    let values = rest(case, z.pixels + 4 * z.nodes);
+    let rebuilt = rebuilding::check(z, 0, rest(case, z.pixels), values);
+    coding::check(z, case).or(rebuilt)
 }
 
 // Reads a case and checks it.
 pub(crate) fn check_read<R: Read>(
     data: &mut R,
-    s: Settings,
-    z: Sizes,
-    case: &mut [u8],
-) -> io::Result<Finding> {
-    let bounds = 2 * z.pixels as usize + 8 * z.nodes as usize;
-    let is_read = reading::read_exactly(data, case, bounds + 2 * z.levels as usize)?;
-    let settings = check_settings(s, z, reading::rest(case, bounds));
-    let called = check_calls(s, z, case);
-    Ok(either(cut_unless(is_read), either(settings, called)))
+    z: Shape,
+    case: &mut [u8; MOST_BYTES],
+) -> io::Result<Option<Finding>> {
+    let bounds = 2 * z.pixels + 8 * z.nodes;
+    let is_read = read_exactly(data, case, bounds + 2 * z.levels)?;
+    let cut = cut_unless(is_read, Part::EndOfFile);
+    let settings = check_nodes(z).or(check_bounds(z, rest(case, bounds)));
+    Ok(cut.or(settings).or(check_calls(z, case)))
 }

@@ -1,42 +1,44 @@
 // A rebuilding, accepted or refused.
-use crate::sizes::{AFTER, MOST_NODES, MOST_PIXELS, MOST_PLACES, Sizes};
-use crate::{comparing, parts};
-use pyramid::Settings;
-use test_support::comparing::least;
-use test_support::reporting::{Finding, compared, difference};
-use test_support::{fillers, reading};
+use crate::comparing;
+use crate::parts::{Finding, Part};
+use crate::shape::{AFTER, MOST_NODES, MOST_PIXELS, MOST_PLACES, Shape};
+use refusals::answer_number;
+use test_support::comparing::first_difference;
+use test_support::fillers::{byte_filler, fill, first_changed, work_filler};
+use test_support::reading::{load_indices, rest};
+use test_support::reporting::compared;
 
 // What an accepted rebuilding leaves. The bytes hold the values and then the picture.
-fn check_accepted(z: Sizes, bytes: &[u8], picture: &[u8], work: &[i32]) -> Finding {
-    let nodes = z.nodes as usize;
-    let pixels = z.pixels as usize;
+fn check_accepted(z: Shape, bytes: &[u8], picture: &[u8], work: &[i32]) -> Option<Finding> {
     let value = comparing::values(bytes, work, z.nodes);
-    if value < nodes {
-        return difference(parts::VALUE, value);
-    }
-    let expected = reading::rest(bytes, 4 * nodes);
-    let pixel = test_support::comparing::bytes(expected, picture, pixels);
-    if pixel < pixels {
-        return difference(parts::PIXEL, pixel);
-    }
-    let after = fillers::first_changed_work(work, nodes);
-    compared(parts::AFTER_VALUES, after, work.len())
+    let pixel = first_difference(rest(bytes, 4 * z.nodes), picture, z.pixels);
+    let after = first_changed(work, z.nodes, work_filler);
+    compared(Part::Value, value)
+        .or(compared(Part::Pixel, pixel))
+        .or(compared(Part::AfterValues, after))
 }
 
 // A refused rebuilding changes nothing.
-fn check_refused(picture: &[u8], work: &[i32]) -> Finding {
-    let pixel = fillers::first_changed_byte(picture, 0);
-    if pixel < picture.len() {
-        return difference(parts::REFUSED_PICTURE, pixel);
-    }
-    let place = fillers::first_changed_work(work, 0);
-    compared(parts::REFUSED_WORK, place, work.len())
+fn check_refused(picture: &[u8], work: &[i32]) -> Option<Finding> {
+    let pixel = first_changed(picture, 0, byte_filler);
+    let place = first_changed(work, 0, work_filler);
+    compared(Part::RefusedPicture, pixel).or(compared(Part::RefusedWork, place))
 }
 
 // What a rebuilding answers and leaves, to the answer that the case has.
-fn compare(z: Sizes, answer: u16, got: u16, bytes: &[u8], picture: &[u8], work: &[i32]) -> Finding {
+fn compare(
+    z: Shape,
+    answer: u16,
+    got: u16,
+    bytes: &[u8],
+    picture: &[u8],
+    work: &[i32],
+) -> Option<Finding> {
     if got != answer {
-        return difference(parts::REBUILDING_ANSWER, got as usize);
+        return Some(Finding {
+            part: Part::RebuildingAnswer,
+            place: usize::from(got),
+        });
     }
     if answer == 0 {
         return check_accepted(z, bytes, picture, work);
@@ -46,35 +48,31 @@ fn compare(z: Sizes, answer: u16, got: u16, bytes: &[u8], picture: &[u8], work: 
 
 // Rebuilds over filled buffers. The bytes hold the values and then the picture.
 fn check_lent(
-    s: Settings,
-    z: Sizes,
+    z: Shape,
     answer: u16,
     bytes: &[u8],
     levels: &[i16],
     picture: &mut [u8],
     work: &mut [i32],
-) -> Finding {
-    fillers::fill_bytes(picture);
-    fillers::fill_work(work);
-    let got = pyramid::rebuilding(s, levels, picture, work);
+) -> Option<Finding> {
+    fill(picture, byte_filler);
+    fill(work, work_filler);
+    let got = answer_number(pyramid::rebuilding(z.settings, levels, picture, work));
     compare(z, answer, got, bytes, picture, work)
 }
 
 // Rebuilds from indices in bytes, to the answer that the case has.
-pub(crate) fn check(s: Settings, z: Sizes, answer: u16, indices: &[u8], bytes: &[u8]) -> Finding {
+pub(crate) fn check(z: Shape, answer: u16, indices: &[u8], bytes: &[u8]) -> Option<Finding> {
     let mut levels: [i16; MOST_NODES] = [0; MOST_NODES];
     let mut picture: [u8; MOST_PIXELS] = [0; MOST_PIXELS];
     let mut work: [i32; MOST_PLACES] = [0; MOST_PLACES];
-    let nodes = least(z.nodes as usize, MOST_NODES);
-    let pixels = least(z.pixels as usize, MOST_PIXELS);
-    reading::load_indices(indices, &mut levels);
+    load_indices(indices, &mut levels);
     check_lent(
-        s,
         z,
         answer,
         bytes,
-        &levels[0..nodes],
-        &mut picture[0..pixels],
-        &mut work[0..nodes + AFTER],
+        &levels[..z.nodes],
+        &mut picture[..z.pixels],
+        &mut work[..z.nodes + AFTER],
     )
 }

@@ -1,14 +1,12 @@
 -- `pyramid::accepted` meets its contract: each rule is looked at where those before it hold. Assumes nothing.
-use mathlib.Core.Path.{◌≡◌, refl, sym, ap, ◌∙◌, subst}
-use Rattle.refusals.specs.Definitions.Outcomes.{outcome}
-use Rattle.refusals.proofs.Outcomes.{refuses, accepts, none, value-is, passed_on, passes, some}
-use mathlib.Core.List.{[], ◌∷◌}
+use mathlib.Core.Path.{sym}
+use Rattle.refusals.proofs.Outcomes.{refuses, accepts, none, value-is, some}
 use native.Mathlib.Nat.{mul-le-mul}
 use native.Mathlib.Omega.{arith}
 use borrow.Author.Tests.{eq-eqb, le-leb, ne_eqb, lt-leb}
 use Rattle.std.proofs.lemmas.Result.{err_from_is_err_and}
 use Rattle.refusals.specs.declared.Refusal.TheVariants.{PictureLength, LevelsLength, WorkLength}
-use Rattle.pyramid.specs.Definitions.Refusals.{unless, first, settings_refusal, buffers_refusal}
+use Rattle.pyramid.specs.Definitions.Refusals.{unless, first, buffers_refusal}
 use Rattle.pyramid.proofs.Refusals.{first_stop}
 use Rattle.pyramid.proofs.accepted.Goals as goal
 

@@ -1,7 +1,7 @@
 -- `pyramid::coding` meets its contract: an accepted call is coded, and a refusal leaves both buffers as they were. Assumes nothing.
-use mathlib.Core.Path.{◌≡◌, refl, sym, ap, ◌∙◌, subst}
+use mathlib.Core.Path.{refl, sym}
 use Rattle.refusals.specs.Definitions.Outcomes.{outcome}
-use Rattle.refusals.proofs.Outcomes.{refuses, accepts, none, value-is, passed_on, passes, some}
+use Rattle.refusals.proofs.Outcomes.{none, value-is, passed_on, some}
 use Rattle.pyramid.specs.Definitions.Refusals.{coding_refusal}
 use Rattle.pyramid.specs.Definitions.Calls.{leaves, coding}
 use Rattle.pyramid.proofs.Refusals.{accepted_coding, leaves_kept}
@@ -19,7 +19,7 @@ returns-in_err-lawful c =
 
 pub code-requires : goal.code-requires
 unfolding coding_refusal
-code-requires c = let e = sym c.in_ok-lawful.ensures in rw (value-is _ _ e) (accepted_coding _ _ _ _ (none _ _ e))
+code-requires c = let e = sym c.in_ok-lawful.ensures in rw (value-is _ _ e) (accepted_coding _ _ _ _ (none _ _ e)).sized
 
 pub returns : goal.returns
 unfolding coding coding_refusal leaves outcome

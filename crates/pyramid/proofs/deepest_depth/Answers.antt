@@ -1,9 +1,7 @@
 -- `pyramid::deepest_depth` meets its contract. Assumes nothing.
-use mathlib.Core.Path.{◌≡◌, refl, sym, ap, ◌∙◌, subst}
-use Rattle.refusals.specs.Definitions.Outcomes.{outcome}
-use Rattle.refusals.proofs.Outcomes.{refuses, accepts, none, value-is, passed_on}
+use mathlib.Core.Path.{sym}
+use Rattle.refusals.proofs.Outcomes.{refuses, accepts}
 use Rattle.refusals.specs.declared.Refusal.TheVariants.{Size}
-use Rattle.pyramid.specs.Definitions.Refusals.{unless}
 use Rattle.pyramid.specs.Definitions.Answers.{deepest_answer}
 use Rattle.pyramid.proofs.Refusals.{outcome_left, unless_passes, unless_fails}
 use Rattle.pyramid.proofs.SettingsTests.{size_positive}

@@ -1,7 +1,6 @@
 -- `pyramid::level_bounds` meets its contract: bounds are made of settings that are accepted. Assumes nothing.
-use mathlib.Core.Path.{◌≡◌, refl, sym, ap, ◌∙◌, subst}
-use Rattle.refusals.specs.Definitions.Outcomes.{outcome}
-use Rattle.refusals.proofs.Outcomes.{refuses, accepts, none, value-is, passed_on}
+use mathlib.Core.Path.{refl, sym}
+use Rattle.refusals.proofs.Outcomes.{accepts, none, value-is, passed_on}
 use Rattle.pyramid.specs.Definitions.Answers.{bounds_answer}
 use Rattle.pyramid.proofs.Refusals.{outcome_left}
 use Rattle.pyramid.proofs.level_bounds.Goals as goal

@@ -1,9 +1,6 @@
 -- `pyramid::level_size` meets its contract: a level that an accepted shape has is counted, and any other is 0 by 0. Assumes nothing.
-use mathlib.Core.Path.{◌≡◌, refl, sym, ap, ◌∙◌, subst}
-use Rattle.refusals.specs.Definitions.Outcomes.{outcome}
-use Rattle.refusals.proofs.Outcomes.{refuses, accepts, none, value-is, passed_on}
-use borrow.Author.Tests.{le-leb, lt-leb}
-use Rattle.pyramid.specs.Definitions.Calls.{leaves}
+use mathlib.Core.Path.{refl, sym}
+use Rattle.refusals.proofs.Outcomes.{accepts, none, value-is, passed_on}
 use Rattle.pyramid.specs.Definitions.Answers.{level_size_answer}
 use Rattle.pyramid.proofs.level_size.Goals as goal
 

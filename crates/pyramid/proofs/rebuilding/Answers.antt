@@ -1,15 +1,14 @@
 -- `pyramid::rebuilding` meets its contract: an accepted call is rebuilt, and a refusal leaves both buffers as they were. Assumes nothing.
-use mathlib.Core.Path.{◌≡◌, refl, sym, ap, ◌∙◌, subst}
+use mathlib.Core.Path.{◌≡◌, refl, sym, ◌∙◌, subst}
 use Rattle.refusals.specs.Definitions.Outcomes.{outcome}
-use Rattle.refusals.proofs.Outcomes.{refuses, accepts, none, value-is, passed_on, passes, some}
-use mathlib.Core.Bool.{Bool, true, false}
+use Rattle.refusals.proofs.Outcomes.{none, value-is, passed_on, some}
+use mathlib.Core.Bool.{Bool}
 use mathlib.Core.List.{List, [], ◌∷◌}
 use Prim.Native.Nat.{ℕ}
 use lib.Dec.{T}
 use lib.IntN.{ℤ}
 use lib.ListN.{length}
 use Rattle.std.specs.Prelude.{Ok}
-use Rattle.refusals.specs.declared.Refusal.TheVariants.{Index}
 use Rattle.pyramid.specs.declared.Settings.{Settings}
 use Rattle.pyramid.specs.Definitions.Refusals.{unless, first, settings_refusal, buffers_refusal, values_ok, coding_refusal, rebuilding_refusal}
 use Rattle.pyramid.specs.Definitions.Calls.{leaves, rebuilding}
@@ -46,16 +45,14 @@ module _ (s held : Settings) (picture : List ℕ) (levels work : List ℤ)
   values_left holds f = rw (← same, f) (rebuilding_values _ _ _ _ passed)
 
 pub values_ok-requires : goal.values_ok-requires
-values_ok-requires c =
-    let a = taken _ _ _ _ _ c.in_ok-lawful.ensures in
-    record { lawful = a.law; levels_len = a.sized.levels_is }
+values_ok-requires c = (taken _ _ _ _ _ c.in_ok-lawful.ensures).sized.levels_is
 
 pub returns-then-not-values_ok : goal.returns-then-not-values_ok
 unfolding rebuilding unless first leaves outcome
 returns-then-not-values_ok c = rw (values_left _ _ _ _ _ c.in_ok-lawful.ensures _ c.if-not-values_ok.ensures) (record { value = refl; picture_after = refl; work_after = refl })
 
 pub rebuild-requires : goal.rebuild-requires
-rebuild-requires c = record { accepted = taken _ _ _ _ _ c.in_ok-lawful.ensures; t = subst T c.if-not-values_ok.ensures tt }
+rebuild-requires c = record { sized = (taken _ _ _ _ _ c.in_ok-lawful.ensures).sized; t = subst T c.if-not-values_ok.ensures tt }
 
 pub returns : goal.returns
 unfolding rebuilding unless first leaves outcome

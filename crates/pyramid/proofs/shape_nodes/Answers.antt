@@ -1,8 +1,6 @@
 -- `pyramid::shape_nodes` meets its contract: T is counted where a shape is accepted. Assumes nothing.
-use mathlib.Core.Path.{◌≡◌, refl, sym, ap, ◌∙◌, subst}
-use Rattle.refusals.specs.Definitions.Outcomes.{outcome}
-use Rattle.refusals.proofs.Outcomes.{refuses, accepts, none, value-is, passed_on}
-use Rattle.pyramid.specs.Definitions.Sizes.{total}
+use mathlib.Core.Path.{refl, sym}
+use Rattle.refusals.proofs.Outcomes.{accepts, none, value-is, passed_on}
 use Rattle.pyramid.specs.Definitions.Answers.{shape_answer}
 use Rattle.pyramid.proofs.Refusals.{outcome_left}
 use Rattle.pyramid.proofs.shape_nodes.Goals as goal

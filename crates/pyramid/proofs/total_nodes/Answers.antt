@@ -1,8 +1,6 @@
 -- `pyramid::total_nodes` meets its contract: T is counted where settings are accepted. Assumes nothing.
-use mathlib.Core.Path.{◌≡◌, refl, sym, ap, ◌∙◌, subst}
-use Rattle.refusals.specs.Definitions.Outcomes.{outcome}
-use Rattle.refusals.proofs.Outcomes.{refuses, accepts, none, value-is, passed_on}
-use Rattle.pyramid.specs.Definitions.Sizes.{total}
+use mathlib.Core.Path.{refl, sym}
+use Rattle.refusals.proofs.Outcomes.{accepts, none, value-is, passed_on}
 use Rattle.pyramid.specs.Definitions.Answers.{nodes_answer}
 use Rattle.pyramid.proofs.Refusals.{outcome_left}
 use Rattle.pyramid.proofs.total_nodes.Goals as goal
@@ -15,4 +13,4 @@ pub returns : goal.returns
 unfolding nodes_answer
 returns c =
     let e = sym c.in_ok-lawful.ensures in
-    rw (outcome_left, c.nodes.ensures, c.shape.ensures, value-is _ _ e) (accepts _ (none _ _ e))
+    rw (outcome_left, c.nodes.ensures, value-is _ _ e) (accepts _ (none _ _ e))

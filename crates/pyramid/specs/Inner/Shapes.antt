@@ -10,5 +10,5 @@ shape_settings (Ok shape) = Ok shape.settings
 shape_settings (Err refusal) = Err refusal
 
 abbrev pub lawful_settings : Result LawfulSettings Refusal → Result Settings Refusal
-lawful_settings (Ok lawful) = Ok lawful.settings
+lawful_settings (Ok lawful) = Ok lawful.shape.settings
 lawful_settings (Err refusal) = Err refusal

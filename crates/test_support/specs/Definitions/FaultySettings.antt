@@ -13,12 +13,12 @@ abbrev pub outside : Bool → ℕ → ℕ
 outside undivided variant = cond (leb 2 variant) (cond undivided 65534 257) (cond undivided 130 1)
 
 -- a lawful side with faults: outside, or less by one, so that 2^N does not divide it less 1, or both
-unfoldable pub side_with : ℕ → (isOutside undivided : Bool) → ℕ → ℕ
+abbrev pub side_with : ℕ → (isOutside undivided : Bool) → ℕ → ℕ
 side_with side isOutside undivided variant = cond isOutside (outside undivided variant) (cond undivided (side - 1) side)
 
 module _ (s : Settings) where
   -- faults 1, in the columns or, in every other variant, in the rows; 14, in the columns; 15, in the rows
-  unfoldable pub with_sides : (one fourteen fifteen : Bool) → ℕ → Settings
+  abbrev pub with_sides : (one fourteen fifteen : Bool) → ℕ → Settings
   with_sides one fourteen fifteen variant =
       let inRows = eqb (variant % 2) 1 in
       record {
@@ -30,16 +30,16 @@ module _ (s : Settings) where
       }
 
   -- the smallest depth above 6, on the size whose sides less 1 its power divides, with a bin in every slot: no other rule is broken
-  unfoldable pub with_depth : Settings
+  abbrev pub with_depth : Settings
   with_depth = record { columns = 129; rows = 129; depth = 7; kernel = s.kernel; bins = replicate 7 1 }
 
   -- kernels below and above
-  unfoldable pub with_kernel : ℕ → Settings
+  abbrev pub with_kernel : ℕ → Settings
   with_kernel variant =
       record { columns = s.columns; rows = s.rows; depth = s.depth; kernel = get_or (2 ∷ 7 ∷ 0 ∷ []) variant 65535; bins = s.bins }
 
   -- no bin in slot 0; too large a bin in the slot of the depth, in the slot after it, and in the last: all faults at any depth
-  unfoldable pub with_bins : ℕ → Settings
+  abbrev pub with_bins : ℕ → Settings
   with_bins variant =
       record {
         columns = s.columns;
@@ -50,7 +50,7 @@ module _ (s : Settings) where
       }
 
 -- the settings with each of the faults 1, 13, 14, 15, 2 and 3 that a list has
-unfoldable pub with_faults : Settings → List ℕ → ℕ → Settings
+abbrev pub with_faults : Settings → List ℕ → ℕ → Settings
 with_faults s faults variant =
     let d = cond (member 13 faults) (with_depth s) s in
     let b = cond (member 3 faults) (with_bins d variant) d in

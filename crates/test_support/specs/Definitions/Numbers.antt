@@ -7,21 +7,21 @@ use Rattle.pyramid.specs.declared.Settings.{Settings}
 
 module _ (bytes : List ℕ) where
   -- the number of 16 bits, and of 32, at a place
-  unfoldable pub unsigned16 : ℕ → ℕ
+  abbrev pub unsigned16 : ℕ → ℕ
   unsigned16 at = get_or bytes at 0 + 256 * get_or bytes (at + 1) 0
 
-  unfoldable pub unsigned32 : ℕ → ℕ
+  abbrev pub unsigned32 : ℕ → ℕ
   unsigned32 at = unsigned16 at + 65536 * unsigned16 (at + 2)
 
   -- the same, in two's complement
-  unfoldable pub signed16 : ℕ → ℤ
+  abbrev pub signed16 : ℕ → ℤ
   signed16 at = to_z w16 (unsigned16 at)
 
-  unfoldable pub signed32 : ℕ → ℤ
+  abbrev pub signed32 : ℕ → ℤ
   signed32 at = to_z w32 (unsigned32 at)
 
   -- C, R, N, k and the seven bins, slot 0 first, each of 16 bits
-  unfoldable pub settings : Settings
+  abbrev pub settings : Settings
   settings =
       record {
         columns = unsigned16 0;

@@ -1,14 +1,13 @@
--- `pyramid::bounding::bound_slots` meets its contract. The loop's invariant: b is the bound of level l, and the slots from l on are filled.
--- The measure is l. Assumes nothing.
-use native.Mathlib.Omega.{arith}
+-- `pyramid::bounding::bound_slots` meets its contract: each turn fills the slot of the next level down. Assumes nothing.
+use Rattle.std.proofs.Common.{arith}
 use Rattle.pyramid.proofs.BoundSlots.{filled_start, filled_next, filled_end}
 use Rattle.pyramid.proofs.bounding.bound_slots.Goals as goal
 
 pub loop-l-init : goal.loop-l-init
-loop-l-init c = filled_start c.requires
+loop-l-init c = rw c.from-top.ensures (filled_start c.args.s.lawful)
 
-pub overflow_add-b : goal.overflow_add-b
-overflow_add-b c = let k = filled_next c.loop-l.invariant c.loop-l-test.true in omega arith
+pub overflow_add-bound : goal.overflow_add-bound
+overflow_add-bound c = let k = filled_next c.loop-l.invariant c.loop-l-test.true in omega arith
 
 pub loop-l-preserved : goal.loop-l-preserved
 loop-l-preserved c = rw c.magnify.ensures (filled_next c.loop-l.invariant c.loop-l-test.true)

@@ -1,9 +1,6 @@
--- What the loop of `pyramid::bounding::bound_slots` keeps, and what falls with each turn.
+-- What the loop of `pyramid::bounding::bound_slots` keeps: the bound is that of level l, and the slots from l on are filled.
 use Rattle.pyramid.proofs.BoundSlots.{Filled}
 use Rattle.pyramid.proofs.bounding.bound_slots.Given as goal
 
 abbrev pub invariant-loop-l : goal.invariant-loop-l
-invariant-loop-l v = Filled v.s v.out v.l v.b
-
-abbrev pub decreases-loop-l : goal.decreases-loop-l
-decreases-loop-l v = v.l
+invariant-loop-l l = Filled l.s.shape.settings l.out l.l l.bound

@@ -6,7 +6,7 @@ use Rattle.pyramid.proofs.bounding.magnify.Goals as goal
 
 pub returns-then-kernel-eq6 : goal.returns-then-kernel-eq6
 unfolding magnified hundredths
-returns-then-kernel-eq6 c = rw (eq-eqb _ _ c.if-kernel-eq6.true)
+returns-then-kernel-eq6 c = rw (eq-eqb _ _ c.if-kernel-eq6.true) (omega (arith, c.div_ceil.ensures))
 
 pub returns : goal.returns
 unfolding magnified hundredths

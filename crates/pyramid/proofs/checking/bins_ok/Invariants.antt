@@ -1,13 +1,8 @@
--- What the loop of `pyramid::checking::bins_ok` keeps, and what falls with each turn.
-use mathlib.Core.Path.{◌≡◌}
-use mathlib.Core.Bool.{true}
-use Prim.Native.Nat.{◌≤◌, ◌-◌}
+-- What the loop of `pyramid::checking::bins_ok` keeps: the slots below this one hold what they may.
+use Rattle.std.proofs.Common.{◌≡◌, true}
 use Rattle.mathematics.specs.Definitions.Tests.{all_below}
 use Rattle.pyramid.proofs.SettingsTests.{slot}
 use Rattle.pyramid.proofs.checking.bins_ok.Given as goal
 
-abbrev pub invariant-loop-l : goal.invariant-loop-l
-invariant-loop-l v = (v.l ≤ 7) × (all_below v.l (slot v.s) ≡ true)
-
-abbrev pub decreases-loop-l : goal.decreases-loop-l
-decreases-loop-l v = 7 - v.l
+abbrev pub invariant-loop-level : goal.invariant-loop-level
+invariant-loop-level l = all_below l.level (slot l.fn.s) ≡ true

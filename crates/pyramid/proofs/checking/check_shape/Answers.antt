@@ -1,13 +1,8 @@
 -- `pyramid::checking::check_shape` meets its contract: one comparison with the deepest depth passes three rules. Assumes nothing.
-use mathlib.Core.Path.{◌≡◌, sym, ap, ◌∙◌}
-use Rattle.refusals.proofs.Outcomes.{refuses, accepts, none, value-is, passed_on}
-use mathlib.Core.Bool.{true}
-use mathlib.Core.List.{[], ◌∷◌}
-use Prim.Native.Nat.{ℕ, ◌≤◌}
+use mathlib.Core.Path.{sym, ◌∙◌}
+use Rattle.refusals.proofs.Outcomes.{refuses, accepts}
 use Rattle.refusals.specs.declared.Refusal.TheVariants.{Size, Kernel}
-use Rattle.pyramid.specs.declared.Settings.{Settings}
-use Rattle.pyramid.specs.Definitions.Settings.{size_ok, kernel_ok}
-use Rattle.pyramid.specs.Definitions.Refusals.{unless, first, shape_refusal}
+use Rattle.pyramid.specs.Definitions.Refusals.{shape_refusal}
 use Rattle.pyramid.proofs.Refusals.{first_nil, answers_fails, answers_passes}
 use Rattle.pyramid.proofs.SettingsTests.{size_positive}
 use Rattle.pyramid.proofs.ShapeRefusals.{depth_passes}

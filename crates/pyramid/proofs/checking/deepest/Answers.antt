@@ -1,5 +1,5 @@
 -- `pyramid::checking::deepest` meets its contract, by the law that trailing-zero counts give the deepest depth. Assumes nothing.
-use mathlib.Core.Path.{sym, ◌∙◌}
+use Rattle.std.proofs.Common.{sym, ◌∙◌}
 use Rattle.pyramid.proofs.Depth.{deepest_counts}
 use Rattle.pyramid.proofs.checking.deepest.Goals as goal
 

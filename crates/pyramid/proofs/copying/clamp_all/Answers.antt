@@ -1,13 +1,10 @@
 -- `pyramid::copying::clamp_all` meets its contract: each turn of its loop clamps one value. Assumes nothing.
-use mathlib.Core.Path.{ap, ◌∙◌}
-use native.Mathlib.Omega.{arith}
-use borrow.Author.Rules.{sfits_of}
-use lib.IntN.{pos}
-use Rattle.mathematics.proofs.Held.{held_is}
+use Rattle.std.proofs.Common.{◌∙◌, pos, arith, rules}
 use Rattle.mathematics.proofs.Splices.{splice_whole}
 use Rattle.mathematics.proofs.Tables.{length-tabulate, tabulate-map}
 use Rattle.mathematics.proofs.Filling.{filling_start, filling_next, filling_end}
 use Rattle.pyramid.specs.Definitions.Rebuilding.{clamp}
+use Rattle.pyramid.proofs.Copies.{clamped_stored}
 use Rattle.pyramid.proofs.copying.clamp_all.Goals as goal
 
 pub loop-i-init : goal.loop-i-init
@@ -15,12 +12,11 @@ loop-i-init c = filling_start _ _ _ _
 
 pub loop-i-preserved : goal.loop-i-preserved
 loop-i-preserved c =
-    let l = c.before.before.before in
-    filling_next l.loop-i.invariant (omega arith) (omega arith)
-    (c.clamped.ensures ∙ ap (clamp l.args.s) (held_is (sfits_of c.clamped-arg-1.given))) (omega arith)
+    filling_next c.loop-i.invariant (omega arith) (omega arith)
+    (clamped_stored c.args.s (search rules) (search rules) c.clamp.ensures.value)
+    (omega arith)
 
 pub returns : goal.returns
 returns c =
-    let s = c.before.before.before in
-    filling_end c.loop-i.invariant c.loop-i-test.false ∙ splice_whole _ _ (length-tabulate _ _ ∙ s.requires)
-    ∙ tabulate-map (clamp s.args.s) (pos 0) s.args.src.now
+    filling_end c.loop-i.invariant c.loop-i-test.false ∙ splice_whole _ _ (length-tabulate _ _ ∙ c.requires)
+    ∙ tabulate-map (clamp c.args.s) (pos 0) c.args.src.now

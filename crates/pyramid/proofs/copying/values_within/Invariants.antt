@@ -1,11 +1,6 @@
--- What the loop of `pyramid::copying::values_within` keeps, and what falls with each turn.
-use Prim.Native.Nat.{◌-◌}
-use lib.ListN.{length}
+-- What the loop of `pyramid::copying::values_within` keeps.
 use Rattle.pyramid.proofs.IndexRanges.{Ranged}
 use Rattle.pyramid.proofs.copying.values_within.Given as goal
 
-abbrev pub invariant-loop-i : goal.invariant-loop-i
-invariant-loop-i v = Ranged v.bin v.indices v.i v.range
-
-abbrev pub decreases-loop-i : goal.decreases-loop-i
-decreases-loop-i v = length v.indices - v.i
+abbrev pub invariant-loop-index : goal.invariant-loop-index
+invariant-loop-index l = Ranged l.fn.bin l.indices l.index-index l.range

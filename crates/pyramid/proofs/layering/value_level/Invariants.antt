@@ -1,23 +1,16 @@
--- What the loop of `pyramid::layering::value_level` keeps, and what falls with each turn.
-use mathlib.Core.Path.{◌≡◌}
+-- What the loop of `pyramid::layering::value_level` keeps.
 use mathlib.Core.List.{List}
-use Prim.Native.Nat.{ℕ, ◌+◌, ◌-◌, ◌*◌}
+use Prim.Native.Nat.{ℕ}
 use lib.IntN.{ℤ}
 use Rattle.pyramid.specs.declared.Settings.{Settings}
-use Rattle.pyramid.specs.Definitions.Sizes.{columns_at}
-use Rattle.pyramid.specs.Definitions.Buffers.{start}
 use Rattle.pyramid.proofs.PredictedRows.{Roomy}
 use Rattle.pyramid.proofs.ValueLevels.{Values}
 use Rattle.pyramid.proofs.layering.value_level.Given as goal
 
 -- j rows of the level's values are there, and the row of predictions holds nothing large
-pub record Going (s : Settings) (l : ℕ) (levels work₀ work row : List ℤ) (at j : ℕ) : Type 0 where
+pub record Going (s : Settings) (l : ℕ) (levels work₀ work row : List ℤ) (j : ℕ) : Type 0 where
   pub rendered : Values s l levels work₀ work j
-  pub place : at ≡ start s l + j * columns_at s l
   pub roomy : Roomy row
 
 abbrev pub invariant-loop-j : goal.invariant-loop-j
-invariant-loop-j v = Going v.s v.l v.levels v.initial.work v.work v.row v.at v.j
-
-abbrev pub decreases-loop-j : goal.decreases-loop-j
-decreases-loop-j v = v.rows - v.j
+invariant-loop-j l = Going l.s.shape.settings l.l l.levels l.initial.work l.work l.row l.j

@@ -1,8 +1,11 @@
 -- `test_support::decoding::settings_of` meets its contract: number by number. Assumes nothing.
+use Rattle.std.proofs.Common.{◌≡◌, ◌+◌, ◌*◌, rules}
 use Rattle.mathematics.specs.Definitions.Tables.{tabulate}
-use Rattle.test_support.specs.Definitions.Numbers.{settings}
+use Rattle.test_support.specs.Definitions.Numbers.{unsigned16}
+use Rattle.test_support.proofs.Filled.{table_of}
 use Rattle.test_support.proofs.decoding.settings_of.Goals as goal
 
 pub returns : goal.returns
-unfolding settings tabulate
-returns c = rw (c.unsigned16_at-11.ensures, c.before.unsigned16_at-10.ensures, c.before.before.unsigned16_at-9.ensures, c.before.before.before.unsigned16_at-8.ensures, c.before.before.before.before.unsigned16_at-7.ensures, c.before.before.before.before.before.unsigned16_at-6.ensures, c.before.before.before.before.before.before.unsigned16_at-5.ensures, c.before.before.before.before.before.before.before.unsigned16_at-4.ensures, c.before.before.before.before.before.before.before.before.unsigned16_at-3.ensures, c.before.before.before.before.before.before.before.before.before.unsigned16_at-2.ensures, c.before.before.before.before.before.before.before.before.before.before.unsigned16_at.ensures)
+returns c =
+    let bins : c.from_fn.result ≡ tabulate 7 (λ slot. unsigned16 c.args.bytes.now (8 + 2 * slot)) = table_of 0 c.from_fn.ensures.items.long (λ k h. let e = c.from_fn.ensures.items.at k 0 h in search rules) in
+    rw bins (search rules)

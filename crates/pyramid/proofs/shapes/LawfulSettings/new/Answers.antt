@@ -1,19 +1,29 @@
--- `pyramid::shapes::LawfulSettings::new` meets its contract. Assumes nothing.
-use mathlib.Core.Path.{◌≡◌, refl, sym, ap, ◌∙◌, subst}
-use Rattle.refusals.specs.Definitions.Outcomes.{outcome}
-use Rattle.refusals.proofs.Outcomes.{refuses, accepts, none, value-is, passed_on}
+-- `pyramid::shapes::LawfulSettings::new` meets its contract: the bins are looked at where the shape passes. Assumes nothing.
+use mathlib.Core.Path.{◌≡◌, sym, ap, ◌∙◌}
+use mathlib.Core.List.{[], ◌∷◌}
+use Prim.Native.Nat.{ℕ}
 use Rattle.std.proofs.lemmas.Result.{err_from_is_err_and}
-use Rattle.refusals.proofs.Outcomes.{passes}
-use Rattle.pyramid.proofs.Refusals.{accepted_settings}
+use Rattle.refusals.specs.Definitions.Outcomes.{outcome}
+use Rattle.refusals.proofs.Outcomes.{none, value-is, some}
+use Rattle.pyramid.specs.declared.Settings.{Settings}
+use Rattle.pyramid.specs.Definitions.Settings.{bins_ok}
+use Rattle.pyramid.specs.Definitions.Refusals.{unless, first, shape_refusal, settings_refusal}
+use Rattle.pyramid.proofs.Refusals.{first_stop, first_skip, first-last}
 use Rattle.pyramid.proofs.shapes.LawfulSettings.new.Goals as goal
 
-pub returns-in_err-check_settings : goal.returns-in_err-check_settings
-returns-in_err-check_settings c =
+pub returns-in_err-shape : goal.returns-in_err-shape
+unfolding settings_refusal
+returns-in_err-shape c =
     let (r, was, from) = err_from_is_err_and c.from_residual.result c.from_residual.ensures.1 in
-    rw (was, from) (passes tt _ _ (sym c.in_err-check_settings.ensures))
+    let e = sym c.in_err-shape.ensures in
+    rw (was, from, first_stop _ _ (some _ _ e)) (sym e)
 
-pub invariant_of-result : goal.invariant_of-result
-invariant_of-result c = record { lawful = accepted_settings _ (none tt _ (sym c.in_ok-check_settings.ensures)) }
+-- what is left to look at
+bins_left : (s : Settings) → shape_refusal s ≡ 0 → unless (bins_ok s) 3 ≡ settings_refusal s
+unfolding settings_refusal
+bins_left s e = sym (first_skip _ _ e ∙ first-last _)
 
 pub returns : goal.returns
-returns c = accepts _ (none tt _ (sym c.in_ok-check_settings.ensures))
+returns c =
+    let e = sym c.in_ok-shape.ensures in
+    c.lawful.ensures ∙ rw (value-is _ _ e) (ap (λ (n : ℕ). outcome n c.args.s) (bins_left c.args.s (none _ _ e)))

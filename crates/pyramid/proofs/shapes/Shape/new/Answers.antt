@@ -1,7 +1,6 @@
 -- `pyramid::shapes::Shape::new` meets its contract. Assumes nothing.
-use mathlib.Core.Path.{◌≡◌, refl, sym, ap, ◌∙◌, subst}
-use Rattle.refusals.specs.Definitions.Outcomes.{outcome}
-use Rattle.refusals.proofs.Outcomes.{refuses, accepts, none, value-is, passed_on}
+use mathlib.Core.Path.{sym}
+use Rattle.refusals.proofs.Outcomes.{accepts, none}
 use Rattle.std.proofs.lemmas.Result.{err_from_is_err_and}
 use Rattle.refusals.proofs.Outcomes.{passes}
 use Rattle.pyramid.proofs.Refusals.{accepted_shape}

@@ -1,0 +1,7 @@
+-- What the loop of `test_support::faults::Faults::has` keeps: the numbers before are not the one, or not in the set.
+use Rattle.std.proofs.Common.{◌≡◌, drop}
+use Rattle.test_support.specs.Definitions.FaultSets.{chosen, member}
+use Rattle.test_support.proofs.faults.Faults.has.Given as goal
+
+abbrev pub invariant-loop-n : goal.invariant-loop-n
+invariant-loop-n l = member l.number (chosen l.bits (drop l.n-index l.self.table.now)) ≡ member l.number (chosen l.self.bits l.self.table.now)
