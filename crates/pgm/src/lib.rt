@@ -37,8 +37,7 @@ pub fn read_pgm(file: &[u8], picture: &mut [u8]) -> Result<PictureSize, Refusal>
 pub fn check_pgm(file: &[u8]) -> Result<PictureSize, Refusal>
     ensures { result ≡ outcome (check_pgm file.now).refusal (picture_size (check_pgm file.now)) }
 {
-    let found = checking::accepted(file)?;
-    Ok(found.size)
+    Ok(checking::accepted(file)?.size)
 }
 
 // The size of a file of a picture of this size. Refused: 1.

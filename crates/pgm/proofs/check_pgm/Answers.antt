@@ -5,9 +5,9 @@ use Rattle.pgm.specs.Definitions.Calls.{size_in, check_pgm}
 use Rattle.pgm.proofs.Answers.{checked}
 use Rattle.pgm.proofs.check_pgm.Goals as goal
 
-pub returns-in_err-found : goal.returns-in_err-found
+pub returns-in_err-accepted : goal.returns-in_err-accepted
 unfolding check_pgm size_in
-returns-in_err-found c = passed_on _ _ _ c.from_residual.result _ c.from_residual.ensures.1 c.in_err-found.ensures (λ _. refl)
+returns-in_err-accepted c = passed_on _ _ _ c.from_residual.result _ c.from_residual.ensures.1 c.in_err-accepted.ensures (λ _. refl)
 
 pub returns : goal.returns
-returns c = let e = sym c.in_ok-found.ensures in checked _ (none _ _ e) (value-is _ _ e)
+returns c = let e = sym c.in_ok-accepted.ensures in checked _ (none _ _ e) (value-is _ _ e)

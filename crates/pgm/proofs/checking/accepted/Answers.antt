@@ -6,7 +6,6 @@ use Rattle.refusals.proofs.Outcomes.{none, value-is, passed_on}
 use Rattle.pgm.specs.declared.PictureSize.{PictureSize}
 use Rattle.pgm.proofs.Answers.{no_header, bad_size, whole_within, bad_grey, bad_pixels, all_good}
 use Rattle.pgm.proofs.checking.accepted.Goals as goal
-use Rattle.pgm.proofs.checking.accepted.Goals.{In_ok-size}
 
 pub returns-in_default : goal.returns-in_default
 returns-in_default c = no_header _ _ c.in_default.ensures
