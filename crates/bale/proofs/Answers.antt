@@ -1,19 +1,19 @@
 -- What the writer and the readers answer and leave, refused and accepted. Assumes nothing.
-use mathlib.Core.Path.{◌≡◌, refl, sym, ◌∙◌}
+use mathlib.Core.Path.{◌≡◌, refl, sym, ap, ◌∙◌}
 use mathlib.Core.List.{List, ◌++◌}
-use Prim.Native.Nat.{ℕ}
+use Prim.Native.Nat.{ℕ, zero, suc}
+use borrow.Author.Tests.{eq-eqb, ne_eqb}
 use lib.IntN.{ℤ}
 use lib.ListN.{length, drop}
+use Rattle.refusals.specs.Definitions.Outcomes.{outcome}
 use Rattle.pyramid.specs.declared.Settings.{Settings}
-use Rattle.pyramid.proofs.Refusals.{leaves_new, leaves_kept}
+use Rattle.pyramid.specs.Definitions.Sizes.{total}
+use Rattle.pyramid.specs.Definitions.Calls.{leaves}
+use Rattle.pyramid.proofs.Refusals.{first_skip, first-last, answers_fails, unless_passes, leaves_new, leaves_kept, outcome_left}
 use Rattle.bale.specs.declared.Note.{Note}
-use Rattle.bale.specs.declared.FileSize.{FileSize}
-use Rattle.bale.specs.declared.Bale.{Bale}
 use Rattle.bale.specs.Definitions.Files.{file_of, file_length}
-use Rattle.bale.specs.Definitions.Reader.{depth_in, settings_in, note_in, levels_in}
-use Rattle.bale.specs.Definitions.Calls.{size_answer, write_refusal, write_file, no_settings, no_note, bale_of, read_refusal, read_file}
-use Rattle.bale.proofs.AcceptedFiles.{accepted_writing}
-use Rattle.bale.proofs.Writings.{size_is}
+use Rattle.bale.specs.Definitions.Reader.{depth_in, settings_in, note_in, levels_in, shape_section_refusal, body_refusal}
+use Rattle.bale.specs.Definitions.Calls.{bale_in, check_refusal, check_file, write_refusal, write_file, no_settings, no_note, bale_of, read_refusal, read_file}
 
 -- ---- the writer
 
@@ -27,16 +27,20 @@ module _ (s : Settings) (note : Note) (levels : List ℤ) (file : List ℕ) wher
   unfolding write_file
   writing_is e = rw (e, leaves_new 0 (file_length s) 0 refl, leaves_new 0 (file_of s note levels ++ drop (file_length s) file) file refl)
 
-module _ (s : Settings) (note : Note) (levels : List ℤ) (file : List ℕ) {refusal : ℕ} (e : refusal ≡ write_refusal s note levels (length file)) where
-  pub writing_refused : (refusal ≡ 0 → ⊥) → (record { refusal = refusal; size = 0 } ≡ (write_file s note levels file).answer) × (file ≡ (write_file s note levels file).file)
+-- a call that is refused, and one that is not
+module _ (s : Settings) (note : Note) (levels : List ℤ) (file : List ℕ) where
+  pub writing_left : outcome (write_refusal s note levels (length file)) (file_length s)
+      ≡ outcome (write_file s note levels file).answer.refusal (write_file s note levels file).answer.size
   unfolding write_file
-  writing_refused refused = (rw (← e, leaves_kept _ _ _ refused), rw (← e) (sym (leaves_kept _ _ _ refused)))
+  writing_left = sym (outcome_left _ _ _)
 
-  pub writing_done : {size : FileSize} {new : List ℕ} → refusal ≡ 0 → size ≡ size_answer s → new ≡ file_of s note levels ++ drop (file_length s) file
-      → (size ≡ (write_file s note levels file).answer) × (new ≡ (write_file s note levels file).file)
-  writing_done none p q =
-      let z : write_refusal s note levels (length file) ≡ 0 = sym e ∙ none in
-      rw (writing_is s note levels file z) (p ∙ size_is s (accepted_writing s note levels (length file) z).settings, q)
+  pub writing_kept : (write_refusal s note levels (length file) ≡ 0 → ⊥) → file ≡ (write_file s note levels file).file
+  unfolding write_file
+  writing_kept refused = sym (leaves_kept _ _ _ refused)
+
+  pub writing_put : write_refusal s note levels (length file) ≡ 0 → file_of s note levels ++ drop (file_length s) file ≡ (write_file s note levels file).file
+  unfolding write_file
+  writing_put none = sym (leaves_new _ _ _ none)
 
 -- ---- the reader
 
@@ -45,22 +49,48 @@ module _ (bytes : List ℕ) where
   unfolding bale_of
   bale_is = rw (leaves_new 0 (settings_in bytes) no_settings refl, leaves_new 0 (note_in bytes (depth_in bytes)) no_note refl)
 
+  -- what is left to look at
+  check_left : shape_section_refusal bytes ≡ 0 → check_refusal bytes ≡ body_refusal bytes
+  unfolding check_refusal
+  check_left shape = first_skip _ _ shape ∙ first-last _
+
+  module _ (levels : List ℤ) (shape : shape_section_refusal bytes ≡ 0) where
+    pub places_wrong : (length levels ≡ total (settings_in bytes) → ⊥) → 6 ≡ read_refusal bytes (length levels)
+    unfolding read_refusal
+    places_wrong wrong = answers_fails _ (ne_eqb _ _ wrong) ∙ sym (first_skip _ _ shape)
+
+    pub places_right : length levels ≡ total (settings_in bytes) → read_refusal bytes (length levels) ≡ body_refusal bytes
+    unfolding read_refusal
+    places_right right = first_skip _ _ shape ∙ first_skip _ _ (unless_passes 6 (eq-eqb _ _ right)) ∙ first-last _
+
+  -- what a call answers of the bale
+  pub bale_left : (n : ℕ) → outcome n (bale_in (bale_of bytes n)) ≡ outcome n (record { settings = settings_in bytes; note = note_in bytes (depth_in bytes) })
+  unfolding outcome bale_of leaves
+  bale_left zero = refl
+  bale_left (suc n) = refl
+
+  pub checked : shape_section_refusal bytes ≡ 0
+      → outcome (body_refusal bytes) (record { settings = settings_in bytes; note = note_in bytes (depth_in bytes) })
+      ≡ outcome (check_file bytes).refusal (bale_in (check_file bytes))
+  unfolding check_file bale_of
+  checked shape = sym (bale_left (body_refusal bytes)) ∙ ap (λ (n : ℕ). outcome n (bale_in (bale_of bytes n))) (sym (check_left shape))
+
   pub reading_is : (levels : List ℤ) → read_refusal bytes (length levels) ≡ 0
       → read_file bytes levels ≡ record { answer = record { refusal = 0; settings = settings_in bytes; note = note_in bytes (depth_in bytes) }; levels = levels_in bytes }
   unfolding read_file
   reading_is levels e = rw (e, bale_is, leaves_new 0 (levels_in bytes) levels refl)
 
-pub refused_bale : (bytes : List ℕ) {refusal : ℕ} → (refusal ≡ 0 → ⊥) → record { refusal = refusal; settings = no_settings; note = no_note } ≡ bale_of bytes refusal
-unfolding bale_of
-refused_bale bytes {refusal} refused =
-    rw (leaves_kept refusal (settings_in bytes) no_settings refused, leaves_kept refusal (note_in bytes (depth_in bytes)) no_note refused)
+-- a call that is refused, and one that is not
+module _ (bytes : List ℕ) (levels : List ℤ) where
+  pub reading_left : outcome (read_refusal bytes (length levels)) (record { settings = settings_in bytes; note = note_in bytes (depth_in bytes) })
+      ≡ outcome (read_file bytes levels).answer.refusal (bale_in (read_file bytes levels).answer)
+  unfolding read_file bale_of
+  reading_left = sym (bale_left bytes (read_refusal bytes (length levels)))
 
-module _ (bytes : List ℕ) (levels : List ℤ) {refusal : ℕ} (e : refusal ≡ read_refusal bytes (length levels)) {answer : Bale} where
-  pub reading_refused : (refusal ≡ 0 → ⊥) → answer ≡ record { refusal = refusal; settings = no_settings; note = no_note }
-      → (answer ≡ (read_file bytes levels).answer) × (levels ≡ (read_file bytes levels).levels)
+  pub reading_kept : (read_refusal bytes (length levels) ≡ 0 → ⊥) → levels ≡ (read_file bytes levels).levels
   unfolding read_file
-  reading_refused refused p = (p ∙ refused_bale bytes refused ∙ rw (← e), rw (← e) (sym (leaves_kept _ _ _ refused)))
+  reading_kept refused = sym (leaves_kept _ _ _ refused)
 
-  pub reading_done : {new : List ℤ} → refusal ≡ 0 → answer ≡ bale_of bytes 0 → new ≡ levels_in bytes
-      → (answer ≡ (read_file bytes levels).answer) × (new ≡ (read_file bytes levels).levels)
-  reading_done none p q = rw (reading_is bytes levels (sym e ∙ none)) (p ∙ bale_is bytes, q)
+  pub reading_filled : read_refusal bytes (length levels) ≡ 0 → levels_in bytes ≡ (read_file bytes levels).levels
+  unfolding read_file
+  reading_filled none = sym (leaves_new _ _ _ none)

@@ -21,11 +21,10 @@ use Rattle.pyramid.proofs.Refusals.{first_nil, first_none, first_pass, leaves_ne
 use Rattle.pyramid.proofs.CodedLevels.{coding_accepts, coded-pixels, rebuilding_accepts}
 use Rattle.pyramid.proofs.Accuracy.{rebuilt_near, rebuilt-size, rebuilt_bytes}
 use Rattle.bale.specs.declared.Note.{Note}
-use Rattle.bale.specs.declared.Bale.{Bale}
 use Rattle.bale.specs.Definitions.Readings.{HeldReading, note_ok}
 use Rattle.bale.specs.Definitions.Files.{file_of, file_length}
 use Rattle.bale.specs.Definitions.Reader.{settings_in}
-use Rattle.bale.specs.Definitions.Calls.{ReadOutcome, write_file, read_refusal, bale_of, check_file, read_file}
+use Rattle.bale.specs.Definitions.Calls.{BaleAnswer, ReadOutcome, write_file, read_refusal, bale_of, check_file, read_file}
 use Rattle.bale.specs.Definitions.Copies.{Filing, Copy, written_bytes, first_coded, first_written, filing_refusal, source, shown, recoded, rewritten, copy_refusal, copied, copy_bound, file_after, copies_sum}
 use Rattle.bale.specs.Theorems.RoundTrips.{Held, WrittenIsRead}
 use Rattle.bale.specs.Theorems.Archive.{ShownWithin, Shows, Archive}
@@ -132,10 +131,10 @@ module _ (first : List ℕ) (note : Note) (noted : T (note_ok note)) (drier : He
 
     shows : Shows first note within bytes
     shows = record {
-      accepted = ap (λ (b : Bale). b.refusal) checked;
-      readings = ap (λ (b : Bale). b.note) checked;
-      shown = λ levels picture work long pixels room. one levels picture work (long ∙ ap (λ (b : Bale). total b.settings) checked)
-          (pixels ∙ ap (λ (b : Bale). b.settings.rows * b.settings.columns) checked) (subst (λ (b : Bale). total b.settings ≤ length work) checked room);
+      accepted = ap (λ (b : BaleAnswer). b.refusal) checked;
+      readings = ap (λ (b : BaleAnswer). b.note) checked;
+      shown = λ levels picture work long pixels room. one levels picture work (long ∙ ap (λ (b : BaleAnswer). total b.settings) checked)
+          (pixels ∙ ap (λ (b : BaleAnswer). b.settings.rows * b.settings.columns) checked) (subst (λ (b : BaleAnswer). total b.settings ≤ length work) checked room);
     }
 
     -- an accepted copy: what was shown was coded and written
@@ -189,7 +188,7 @@ module _ (first : List ℕ) (note : Note) (noted : T (note_ok note)) (drier : He
         let (e₁, r₁) = first_none _ _ e in
         let (e₂, r₂) = first_none _ _ r₁ in
         let (e₃, r₃) = first_none _ _ r₂ in (
-          ap (λ (b : List ℕ). (check_file b).settings) (leaves_new _ _ _ e) ∙ ap (λ (b : Bale). b.settings) (checked (accepted_copy h c e₁ e₂ e₃ (first_none _ _ r₃).0)),
+          ap (λ (b : List ℕ). (check_file b).settings) (leaves_new _ _ _ e) ∙ ap (λ (b : BaleAnswer). b.settings) (checked (accepted_copy h c e₁ e₂ e₃ (first_none _ _ r₃).0)),
           leaves_new _ _ _ e,
         )
 
@@ -235,7 +234,7 @@ module _ (first : List ℕ) (note : Note) (noted : T (note_ok note)) (drier : He
     made = record {
       refused = copy_refused;
       accepted = copy_accepted;
-      made = λ suits. copy_made (subst (λ (b : Bale). Suits b.settings c) (checked h) suits);
+      made = λ suits. copy_made (subst (λ (b : BaleAnswer). Suits b.settings c) (checked h) suits);
     }
 
   after : (copies : List Copy) {within : ℕ} {bytes : List ℕ} → Holds within bytes → Holds (within + copies_sum bytes copies) (file_after bytes copies)

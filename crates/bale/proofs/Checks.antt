@@ -1,101 +1,81 @@
 -- Which number is answered first, section by section. Assumes nothing.
-use mathlib.Core.Path.{◌≡◌, refl, sym, ◌∙◌}
-use mathlib.Core.Bool.{Bool, true, false}
-use mathlib.Core.List.{List, []}
-use Prim.Native.Nat.{ℕ, zero, suc, ◌+◌, ◌-◌, ◌*◌}
+use mathlib.Core.Path.{◌≡◌, refl, sym, ap, ◌∙◌}
+use mathlib.Core.Bool.{Bool, cond}
+use mathlib.Core.List.{List}
+use Prim.Native.Nat.{ℕ, zero, suc, ◌+◌, ◌-◌, ◌*◌, ◌≤◌}
 use native.Mathlib.Omega.{arith}
-use borrow.Author.Tests.{eq-eqb, ne_eqb}
+use borrow.Author.Tests.{le-leb}
+use lib.Dec.{leb, eqb}
 use lib.ListN.{length}
 use Rattle.mathematics.specs.Definitions.Tests.{all}
 use Rattle.pyramid.specs.declared.Settings.{Settings}
-use Rattle.pyramid.specs.declared.Nodes.{Nodes}
 use Rattle.pyramid.specs.Definitions.Settings.{bin, bins_ok}
-use Rattle.pyramid.specs.Definitions.Sizes.{nodes_at, total}
-use Rattle.pyramid.specs.Inner.Lawful.{Shaped}
-use Rattle.pyramid.specs.Definitions.Refusals.{unless, index_ok, shape_refusal, settings_refusal}
-use Rattle.pyramid.specs.Definitions.Answers.{shape_answer}
-use Rattle.pyramid.proofs.Refusals.{first_nil, first_none, answers_stop, answers_skip, answers_last, answers_second, answers_fails, answers_passes, accepted_shape, settings_bins}
-use Rattle.pyramid.proofs.ShapeAnswers.{shape_accepted, shape_total}
+use Rattle.pyramid.specs.Definitions.Sizes.{nodes_at}
+use Rattle.pyramid.specs.Definitions.Refusals.{unless, index_ok, shape_refusal}
+use Rattle.pyramid.proofs.Refusals.{first_stop, first_skip, first-last}
 use Rattle.bale.specs.Definitions.Words.{indices_at}
 use Rattle.bale.specs.Definitions.Sections.{section_refusal}
-use Rattle.bale.specs.Definitions.Reader.{depth_in, settings_in, levels_place, shape_section_refusal, level_section_refusal, level_sections_refusal, body_refusal}
-use Rattle.bale.specs.Definitions.Calls.{read_refusal}
+use Rattle.bale.specs.Definitions.Reader.{depth_in, settings_in, levels_place, readings_section_refusal, shape_section_refusal, bins_section_refusal, level_section_refusal, level_sections_refusal}
 
 -- ---- the settings that a file holds
 
-module _ (bytes : List ℕ) (s : Settings) (e : s ≡ settings_in bytes) where
-  pub depth_in_lem : s.depth ≡ depth_in bytes
-  unfolding settings_in
-  depth_in_lem = rw e
-
-  pub shape_in : {m : ℕ} → m ≡ shape_refusal s → m ≡ shape_refusal (settings_in bytes)
-  shape_in p = p ∙ rw e
-
-  pub bins_in : {m : ℕ} → Shaped s → m ≡ settings_refusal s → m ≡ unless (bins_ok (settings_in bytes)) 3
-  bins_in shape p = p ∙ settings_bins s (shape_accepted s shape) ∙ rw e
-
-  pub levels_in_lem : {m : ℕ} → m ≡ level_sections_refusal bytes s s.depth (levels_place s.depth)
-      → m ≡ level_sections_refusal bytes (settings_in bytes) (depth_in bytes) (levels_place (depth_in bytes))
-  unfolding settings_in
-  levels_in_lem p = p ∙ rw e
-
-  pub shaped_in : shape_section_refusal bytes ≡ 0 → Shaped s
+module _ (bytes : List ℕ) where
+  pub shape_left : section_refusal bytes 0 4 2 ≡ 0 → shape_section_refusal bytes ≡ shape_refusal (settings_in bytes)
   unfolding shape_section_refusal
-  shaped_in none = rw e (accepted_shape (settings_in bytes) (first_none _ _ (first_none _ _ none).1).0)
+  shape_left none = first_skip _ _ none ∙ first-last _
+
+  module _ (s : Settings) (e : s ≡ settings_in bytes) where
+    pub depth_in_lem : s.depth ≡ depth_in bytes
+    unfolding settings_in
+    depth_in_lem = rw e
+
+    pub readings_in : readings_section_refusal bytes s.depth ≡ readings_section_refusal bytes (depth_in bytes)
+    readings_in = ap (readings_section_refusal bytes) depth_in_lem
+
+    pub levels_in_lem : level_sections_refusal bytes s s.depth (levels_place s.depth)
+        ≡ level_sections_refusal bytes (settings_in bytes) (depth_in bytes) (levels_place (depth_in bytes))
+    unfolding settings_in
+    levels_in_lem = rw e
+
+    pub bins_stop : (section_refusal bytes 10 (s.depth + 1) 2 ≡ 0 → ⊥) → bins_section_refusal bytes ≡ section_refusal bytes 10 (s.depth + 1) 2
+    unfolding bins_section_refusal
+    bins_stop = rw depth_in_lem (first_stop _ _)
+
+    pub bins_left : section_refusal bytes 10 (s.depth + 1) 2 ≡ 0 → bins_section_refusal bytes ≡ unless (bins_ok s) 3
+    unfolding bins_section_refusal
+    bins_left none = let n : section_refusal bytes 10 (depth_in bytes + 1) 2 ≡ 0 = rw depth_in_lem at none in first_skip _ _ n ∙ first-last _ ∙ rw e
 
 -- ---- a level's section
 
-module _ (bytes : List ℕ) (s : Settings) (level at : ℕ) {nodes m : ℕ} (n : nodes ≡ nodes_at s level) (e : m ≡ section_refusal bytes at nodes 2) where
-  pub level_stops : (m ≡ 0 → ⊥) → m ≡ level_section_refusal bytes s level at
+pub nodes_here : (s : Settings) (level : ℕ) {nodes : ℕ} → level ≤ s.depth → nodes ≡ cond (leb level s.depth) (nodes_at s level) 0 → nodes ≡ nodes_at s level
+nodes_here s level h e = e ∙ rw (le-leb _ _ h)
+
+module _ (bytes : List ℕ) (s : Settings) (level at : ℕ) {nodes : ℕ} (n : nodes ≡ nodes_at s level) where
+  pub level_stop : (section_refusal bytes at nodes 2 ≡ 0 → ⊥) → level_section_refusal bytes s level at ≡ section_refusal bytes at nodes 2
   unfolding level_section_refusal
-  level_stops refused = answers_stop _ (e ∙ rw n) refused
+  level_stop = rw n (first_stop _ _)
 
-  module _ (none : m ≡ 0) {test : Bool} (t : test ≡ all (index_ok (bin s level)) (indices_at bytes (at + 2) nodes)) where
-    pub level_passes : test ≡ true → 0 ≡ level_section_refusal bytes s level at
-    unfolding level_section_refusal
-    level_passes passed = sym first_nil ∙ answers_passes 11 [] (rw (← n, ← t) passed) ∙ answers_skip _ (e ∙ rw n) none
-
-    pub level_fails : test ≡ false → 11 ≡ level_section_refusal bytes s level at
-    unfolding level_section_refusal
-    level_fails failed = answers_fails [] (rw (← n, ← t) failed) ∙ answers_skip _ (e ∙ rw n) none
+  pub level_left : section_refusal bytes at nodes 2 ≡ 0 → {test : Bool} → test ≡ all (index_ok (bin s level)) (indices_at bytes (at + 2) nodes)
+      → level_section_refusal bytes s level at ≡ unless test 11
+  unfolding level_section_refusal
+  level_left none t = rw (t, n) (let m : section_refusal bytes at (nodes_at s level) 2 ≡ 0 = rw n at none in first_skip _ _ m ∙ first-last _)
 
 -- ---- the sections of a level and of those below it
 
-module _ (bytes : List ℕ) (s : Settings) (at : ℕ) {m : ℕ} where
-  pub levels_stop : (l : ℕ) → m ≡ level_section_refusal bytes s l at → (m ≡ 0 → ⊥) → m ≡ level_sections_refusal bytes s l at
+module _ (bytes : List ℕ) (s : Settings) (at : ℕ) where
+  pub levels_stop : (l : ℕ) → (level_section_refusal bytes s l at ≡ 0 → ⊥) → level_sections_refusal bytes s l at ≡ level_section_refusal bytes s l at
   unfolding level_sections_refusal
-  levels_stop zero e refused = answers_stop _ e refused
-  levels_stop (suc l) e refused = answers_stop _ e refused
+  levels_stop zero = first_stop _ _
+  levels_stop (suc l) = first_stop _ _
 
-  pub levels_end : {nodes : ℕ} (l : ℕ) → m ≡ level_section_refusal bytes s l at → m ≡ 0 → nodes ≡ nodes_at s l → l ≡ 0 → length bytes ≡ at + 2 + 2 * nodes
-      → 0 ≡ level_sections_refusal bytes s l at
+  pub levels_next : (l : ℕ) → level_section_refusal bytes s l at ≡ 0 → (l ≡ 0 → ⊥)
+      → level_sections_refusal bytes s (l - 1) (at + 2 + 2 * nodes_at s l) ≡ level_sections_refusal bytes s l at
   unfolding level_sections_refusal
-  levels_end zero e none n z end = sym first_nil ∙ answers_passes 12 [] (rw (← n) (eq-eqb _ _ end)) ∙ answers_skip _ e none
-  levels_end (suc l) e none n z end = absurd (omega arith)
+  levels_next zero none some = absurd (some refl)
+  levels_next (suc l) none some = let p : suc l - 1 ≡ l = omega arith in rw p (sym (first_skip _ _ none ∙ first-last _))
 
-  pub levels_more : {nodes : ℕ} (l : ℕ) → m ≡ level_section_refusal bytes s l at → m ≡ 0 → nodes ≡ nodes_at s l → l ≡ 0 → (length bytes ≡ at + 2 + 2 * nodes → ⊥)
-      → 12 ≡ level_sections_refusal bytes s l at
+  pub levels_end : (l : ℕ) → level_section_refusal bytes s l at ≡ 0 → l ≡ 0
+      → level_sections_refusal bytes s l at ≡ unless (eqb (length bytes) (at + 2 + 2 * nodes_at s l)) 12
   unfolding level_sections_refusal
-  levels_more zero e none n z more = answers_fails [] (rw (← n) (ne_eqb _ _ more)) ∙ answers_skip _ e none
-  levels_more (suc l) e none n z more = absurd (omega arith)
-
-  pub levels_next : {nodes x : ℕ} (l : ℕ) → m ≡ level_section_refusal bytes s l at → m ≡ 0 → nodes ≡ nodes_at s l → (l ≡ 0 → ⊥)
-      → x ≡ level_sections_refusal bytes s (l - 1) (at + 2 + 2 * nodes) → x ≡ level_sections_refusal bytes s l at
-  unfolding level_sections_refusal
-  levels_next zero e none n below next = absurd (below refl)
-  levels_next (suc l) e none n below next = let p : suc l - 1 ≡ l = omega arith in answers_second e none (next ∙ rw (p, n))
-
--- ---- the readers: a level buffer of the wrong length, and what is answered
-
-module _ (bytes : List ℕ) (s : Settings) (places : ℕ) (e : s ≡ settings_in bytes) {m : ℕ} (p : m ≡ shape_section_refusal bytes) (none : m ≡ 0)
-    (answer : Nodes) (a : answer ≡ shape_answer s) where
-  total_in : answer.nodes ≡ total (settings_in bytes)
-  total_in = shape_total s answer a (shaped_in bytes s e (sym p ∙ none)) ∙ rw e
-
-  pub places_wrong : (places ≡ answer.nodes → ⊥) → 6 ≡ read_refusal bytes places
-  unfolding read_refusal
-  places_wrong wrong = answers_fails _ (rw (← total_in) (ne_eqb _ _ wrong)) ∙ answers_skip _ p none
-
-  pub places_right : places ≡ answer.nodes → {n : ℕ} → n ≡ body_refusal bytes → n ≡ read_refusal bytes places
-  unfolding read_refusal
-  places_right right q = answers_last q ∙ answers_passes 6 _ (rw (← total_in) (eq-eqb _ _ right)) ∙ answers_skip _ p none
+  levels_end zero none z = first_skip _ _ none ∙ first-last _
+  levels_end (suc l) none z = absurd (omega arith)

@@ -1,21 +1,18 @@
 -- Pieces that are put one after the other, each where the one before it ends: the sections, the file, and the levels that are read.
 -- Assumes nothing.
 use mathlib.Core.Path.{◌≡◌, refl, sym, ap, ◌∙◌}
-use mathlib.Core.List.{List, ◌++◌, map, map-append, append_assoc, append-nil}
+use mathlib.Core.List.{List, [], ◌∷◌, ◌++◌, map, map-append, append_assoc, append-nil}
 use Prim.Native.Nat.{ℕ, zero, suc, ◌+◌, ◌-◌, ◌*◌, ◌≤◌, ◌<◌}
 use native.Mathlib.Numerals.{add-one}
 use native.Mathlib.Omega.{arith}
+use borrow.Rule.Slice.PartMut.{put_mid}
 use lib.IntN.{ℤ, pos}
 use lib.ListN.{length, get_or, take, drop, length-map, length-append}
-use lib.Seq.{length-take-le, take_all, take-suc, drop-drop}
-use mir.Syntax.{w16}
-use mir.Facts.{sfits_to_z}
-use mir.Val.{SFits}
+use lib.Seq.{length-take-le, take_all, take-suc}
 use Rattle.mathematics.specs.Inner.Splices.{splice, part}
 use Rattle.mathematics.specs.Definitions.Tables.{tabulate}
-use Rattle.mathematics.proofs.Held.{short, short_is}
 use Rattle.mathematics.proofs.Tables.{tabulate-same, tabulate-map}
-use Rattle.mathematics.proofs.Splices.{length-splice, part_long, splice_nil, splice_append, splice_front}
+use Rattle.mathematics.proofs.Splices.{length-splice, part_long, splice_nil, splice_append, splice_front, splice_whole}
 use Rattle.pyramid.specs.declared.Settings.{Settings}
 use Rattle.pyramid.specs.Definitions.Settings.{bin}
 use Rattle.pyramid.specs.Definitions.Sizes.{nodes_at, total}
@@ -25,7 +22,7 @@ use Rattle.bale.specs.Definitions.Readings.{reading_bytes}
 use Rattle.bale.specs.Definitions.Sections.{numbers_section}
 use Rattle.bale.specs.Definitions.Files.{shape_section, bins_from, bins_section, readings_section, level_section, level_sections, file_of, file_length}
 use Rattle.bale.specs.Definitions.Reader.{bins_place, readings_place, levels_place, levels_from}
-use Rattle.bale.proofs.WordLaws.{word_bits}
+use Rattle.bale.proofs.WordLaws.{put_splice}
 use Rattle.bale.proofs.WordLists.{length-words, words_append, length-words_at, get_or-words_at}
 use Rattle.bale.proofs.LevelTrips.{length_level, length_indices}
 use Rattle.bale.proofs.FileLengths.{length_shape, length_bins, length_readings, length_file, length-bins_from}
@@ -84,6 +81,10 @@ readings_next note at l room p q r =
     let drier = reading_bytes note.before_drier in
     piece_next at (le16 2 ++ drier) (reading_bytes note.at_press) l (piece_next at (le16 2) drier l p q refl (omega arith)) r refl (omega arith)
 
+pub code_next : (kind number at : ℕ) (l : List ℕ) {m n : List ℕ} → at + 5 ≤ length l → m ≡ splice at (kind ∷ []) l → n ≡ splice (at + 1) (le32 number) m
+    → n ≡ splice at (kind ∷ le32 number) l
+code_next kind number at l room p q = piece_next at (kind ∷ []) (le32 number) l p q refl (omega arith)
+
 -- ---- a loop that writes the words of indices: l became w, with i of them written
 
 pub record IndexWords (at : ℕ) (ms : List ℤ) (l w : List ℕ) (i : ℕ) : Type 0 where
@@ -102,16 +103,15 @@ module _ (at : ℕ) (ms : List ℤ) (l : List ℕ) where
   words_long : (i : ℕ) → i ≤ length ms → length (words (map index_word (take i ms))) ≡ 2 * i
   words_long i h = length-words (map index_word (take i ms)) ∙ simp (length-map, length-take-le i ms h)
 
-  pub words-next : {w v : List ℕ} {i n : ℕ} → IndexWords at ms l w i → at + 2 * length ms ≤ length l → i < length ms → SFits w16 (get_or ms i (pos 0))
-      → n ≡ index_word (short (get_or ms i (pos 0))) → v ≡ splice (at + 2 * i) (le16 n) w → IndexWords at ms l v (i + 1)
+  pub words-next : {w v : List ℕ} {i : ℕ} {m : ℤ} → IndexWords at ms l w i → at + 2 * length ms ≤ length l → i < length ms → m ≡ get_or ms i (pos 0)
+      → v ≡ splice (at + 2 * i) (le16 (index_word m)) w → IndexWords at ms l v (i + 1)
   unfolding words le16
-  words-next {w} {v} {i} {n} r room h f e q =
-      let one : n ≡ index_word (get_or ms i (pos 0)) = e ∙ ap index_word (short_is f) in
-      let more : words (map index_word (take i ms)) ++ le16 n ≡ words (map index_word (take (i + 1) ms)) =
-      rw (one, add-one, take-suc ms i (pos 0), map-append, words_append) (simp append-nil)
+  words-next {w} {v} {i} {m} r room h e q =
+      let more : words (map index_word (take i ms)) ++ le16 (index_word m) ≡ words (map index_word (take (i + 1) ms)) =
+      rw (e, add-one, take-suc ms i (pos 0), map-append, words_append) (simp append-nil)
       in
       let is : v ≡ splice at (words (map index_word (take (i + 1) ms))) l =
-      rw more at (piece_next at (words (map index_word (take i ms))) (le16 n) l r.is q (omega (arith, words_long i r.bound)) (omega arith))
+      rw more at (piece_next at (words (map index_word (take i ms))) (le16 (index_word m)) l r.is q (omega (arith, words_long i r.bound)) (omega arith))
       in
       let long : length v ≡ length l = rw is (length-splice at (words (map index_word (take (i + 1) ms))) l (omega (arith, words_long (i + 1) (omega arith)))) in
       record { bound = omega arith; long = long; is = is }
@@ -129,24 +129,16 @@ module _ (s : Settings) (ms : List ℤ) where
   sections_suc zero some = absurd (some refl)
   sections_suc (suc l) some = let e : suc l - 1 ≡ l = omega arith in rw e
 
-module _ (s : Settings) (l from at : ℕ) {k : ℕ} (ms : List ℤ) (file : List ℕ) {mid : List ℕ} (e : k ≡ nodes_at s l)
-    (p : mid ≡ splice at (level_section (part from (from + k) ms)) file) where
-  part-is : part from (from + k) ms ≡ take (nodes_at s l) (drop from ms)
-  part-is = let m : from + k - from ≡ k = omega arith in rw (m, e)
+module _ (s : Settings) (l at : ℕ) (ms : List ℤ) (file : List ℕ) {mid : List ℕ} (p : mid ≡ splice at (level_section (take (nodes_at s l) ms)) file) where
+  pub sections_last : l ≡ 0 → mid ≡ splice at (level_sections s l ms) file
+  sections_last z = p ∙ ap (λ (xs : List ℕ). splice at xs file) (sections_zero s ms l z)
 
-  pub sections_last : l ≡ 0 → mid ≡ splice at (level_sections s l (drop from ms)) file
-  sections_last z = p ∙ ap (λ (xs : List ℕ). splice at xs file) (ap level_section part-is ∙ sections_zero s (drop from ms) l z)
-
-  pub sections_more : {new : List ℕ} → (l ≡ 0 → ⊥) → from + k ≤ length ms → at + 2 + 2 * k ≤ length file
-      → new ≡ splice (at + 2 + 2 * k) (level_sections s (l - 1) (drop (from + k) ms)) mid → new ≡ splice at (level_sections s l (drop from ms)) file
-  sections_more some h room q =
-      let one = part from (from + k) ms in
-      let n : length one ≡ k = part_long from k ms h in
-      let d : drop (from + k) ms ≡ drop (nodes_at s l) (drop from ms) = sym (drop-drop (nodes_at s l) from ms ∙ rw (← e)) in
-      let all : level_section one ++ level_sections s (l - 1) (drop (from + k) ms) ≡ level_sections s l (drop from ms) =
-      rw (part-is, d) (sections_suc s (drop from ms) l some)
-      in
-      rw all at (piece_next at (level_section one) (level_sections s (l - 1) (drop (from + k) ms)) file p q (omega (arith, length_level one)) room)
+  pub sections_more : {next : ℕ} → (l ≡ 0 → ⊥) → next ≡ at + 2 + 2 * length (take (nodes_at s l) ms) → next ≤ length file
+      → splice next (level_sections s (l - 1) (drop (nodes_at s l) ms)) mid ≡ splice at (level_sections s l ms) file
+  sections_more some e room =
+      let here = take (nodes_at s l) ms in
+      rw (sections_suc s ms l some) at
+      (piece_next at (level_section here) (level_sections s (l - 1) (drop (nodes_at s l) ms)) file p refl (omega (arith, length_level here)) room)
 
 -- ---- the file
 
@@ -172,10 +164,6 @@ file_next s note levels l long room p q r t =
 
 -- ---- indices that are read
 
--- the index of a word is kept by 16 bits
-pub index_kept : {m : ℤ} {n w : ℕ} → n < 65536 → m ≡ word_index n → n ≡ w → short m ≡ word_index w
-index_kept {m} {n} h p e = ap short (p ∙ word_bits n h) ∙ short_is (sfits_to_z {w = w16} {n = n} (record { fits = h })) ∙ sym (word_bits n h) ∙ ap word_index e
-
 pub indices_table : (bytes : List ℕ) (at n : ℕ) → tabulate n (λ k. word_index (u16_at bytes (at + 2 * k))) ≡ indices_at bytes at n
 indices_table bytes at n =
     let same : tabulate n (λ k. word_index (u16_at bytes (at + 2 * k))) ≡ tabulate n (λ k. word_index (get_or (words_at bytes at n) k 0)) =
@@ -183,20 +171,39 @@ indices_table bytes at n =
     in
     same ∙ rw (length-words_at bytes at n) at (tabulate-map word_index 0 (words_at bytes at n))
 
+pub indices_filled : (bytes : List ℕ) (at : ℕ) (levels : List ℤ)
+    → splice 0 (tabulate (length levels) (λ k. word_index (u16_at bytes (at + 2 * k)))) levels ≡ indices_at bytes at (length levels)
+indices_filled bytes at levels =
+    rw (indices_table bytes at (length levels)) (splice_whole (indices_at bytes at (length levels)) levels (length_indices bytes at (length levels)))
+
 -- of a level and of those below it
 
-module _ (s : Settings) (bytes : List ℕ) (at from : ℕ) (levels : List ℤ) {mid : List ℤ} where
-  pub read_last : (l : ℕ) {k : ℕ} → k ≡ nodes_at s l → mid ≡ splice from (indices_at bytes (at + 2) k) levels → l ≡ 0
-      → mid ≡ splice from (levels_from bytes s l at) levels
-  unfolding levels_from
-  read_last zero e p z = rw e at p
-  read_last (suc l) e p z = absurd (omega arith)
+-- the part of a level buffer that they fill
+pub part_filled : (s : Settings) (bytes : List ℕ) (l at from : ℕ) (levels : List ℤ) {nodes : ℕ} {new : List ℤ} → nodes ≡ nodes_at s l → from + nodes ≤ length levels
+    → new ≡ indices_at bytes (at + 2) (length (part from (from + nodes) levels))
+    → put_mid from (from + nodes - from) levels new ≡ splice from (indices_at bytes (at + 2) (nodes_at s l)) levels
+part_filled s bytes l at from levels {nodes} {new} n room e =
+    let all : new ≡ indices_at bytes (at + 2) nodes = rw (part_long from nodes levels room) at e in
+    let long : length new ≡ nodes = ap length all ∙ length_indices bytes (at + 2) nodes in
+    put_splice from (from + nodes - from) new levels (omega arith) ∙ rw (all, n)
 
-  pub read_more : (l : ℕ) {k : ℕ} {new : List ℤ} → k ≡ nodes_at s l → mid ≡ splice from (indices_at bytes (at + 2) k) levels → (l ≡ 0 → ⊥) → from + k ≤ length levels
-      → new ≡ splice (from + k) (levels_from bytes s (l - 1) (at + 2 + 2 * k)) mid → new ≡ splice from (levels_from bytes s l at) levels
+module _ (s : Settings) (bytes : List ℕ) (l at from : ℕ) (levels : List ℤ) {mid : List ℤ} (p : mid ≡ splice from (indices_at bytes (at + 2) (nodes_at s l)) levels) where
+  levels_zero : (l : ℕ) → l ≡ 0 → indices_at bytes (at + 2) (nodes_at s l) ≡ levels_from bytes s l at
   unfolding levels_from
-  read_more zero e p some room q = absurd (some refl)
-  read_more (suc l) {k} e p some room q =
-      let down : suc l - 1 ≡ l = omega arith in
-      let here = indices_at bytes (at + 2) k in
-      rw e at (piece_next from here (levels_from bytes s l (at + 2 + 2 * k)) levels p (rw down at q) (omega (arith, length_indices bytes (at + 2) k)) room)
+  levels_zero zero z = refl
+  levels_zero (suc l) z = absurd (omega arith)
+
+  levels_suc : (l : ℕ) → (l ≡ 0 → ⊥) → indices_at bytes (at + 2) (nodes_at s l) ++ levels_from bytes s (l - 1) (at + 2 + 2 * nodes_at s l) ≡ levels_from bytes s l at
+  unfolding levels_from
+  levels_suc zero some = absurd (some refl)
+  levels_suc (suc l) some = let e : suc l - 1 ≡ l = omega arith in rw e
+
+  pub read_last : l ≡ 0 → mid ≡ splice from (levels_from bytes s l at) levels
+  read_last z = p ∙ ap (λ (xs : List ℤ). splice from xs levels) (levels_zero l z)
+
+  pub read_more : {next to : ℕ} → (l ≡ 0 → ⊥) → next ≡ at + 2 + 2 * nodes_at s l → to ≡ from + nodes_at s l → to ≤ length levels
+      → splice to (levels_from bytes s (l - 1) next) mid ≡ splice from (levels_from bytes s l at) levels
+  read_more some e f room =
+      let here = indices_at bytes (at + 2) (nodes_at s l) in
+      rw (e, f, ← levels_suc l some)
+      (piece_next from here (levels_from bytes s (l - 1) (at + 2 + 2 * nodes_at s l)) levels p refl (omega (arith, length_indices bytes (at + 2) (nodes_at s l))) (omega arith))

@@ -11,9 +11,8 @@ use Rattle.pyramid.specs.Definitions.Buffers.{Bytes}
 use Rattle.pyramid.proofs.Refusals.{first_nil, first_none, first_pass}
 use Rattle.bale.specs.declared.Reading.{Reading}
 use Rattle.bale.specs.declared.Note.{Note}
-use Rattle.bale.specs.declared.Probe.{Probe}
 use Rattle.bale.specs.Definitions.Words.{le16, le32, u16_at, u32_at}
-use Rattle.bale.specs.Definitions.Readings.{HeldReading, code_of, reading_ok, note_ok, reading_bytes}
+use Rattle.bale.specs.Definitions.Readings.{ReadingAnswer, HeldReading, code_of, reading_ok, note_ok, reading_bytes}
 use Rattle.bale.specs.Definitions.Files.{readings_section}
 use Rattle.bale.specs.Definitions.Reader.{readings_place, drier_place, press_place, probe_at, note_in, readings_section_refusal}
 use Rattle.bale.proofs.Stands.{Stands, stands_front, stands_back, stands_join}
@@ -78,7 +77,7 @@ module _ (bytes : List ℕ) (depth : ℕ) where
       let b = probe_read note.at_press held-press press-ok (stands_back drier press two) in
       let counted : u16_at bytes (readings_place depth) ≡ 2 = word_read (omega arith) (stands_front (le16 2) (drier ++ press) s) in
       let w : Section bytes (readings_place depth) 2 5 = record { present = omega (arith, s.room); counted = counted } in
-      let refusal : Probe → ℕ = λ p. p.refusal in
+      let refusal : ReadingAnswer → ℕ = λ p. p.refusal in
       (first_pass _ (section_accepted w) (first_pass _ (ap refusal a) (first_pass _ (ap refusal b) first_nil)), rw (a, b))
 
   pub readings_stand : Bytes bytes → readings_section_refusal bytes depth ≡ 0

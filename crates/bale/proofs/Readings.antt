@@ -1,23 +1,26 @@
 -- Laws of probe readings: the tests of a percentage, of a fault code and of a kind and its number, the two answers, and that a reading is
 -- its kind and number. Assumes nothing.
 use mathlib.Core.Path.{◌≡◌, refl, sym, ap, ◌∙◌, subst}
-use mathlib.Core.Bool.{Bool, true, false, not, and-false, false≢true}
+use mathlib.Core.Bool.{Bool, true, false, not, and-true, and-false, false≢true}
 use Prim.Native.Nat.{ℕ, zero, suc, ◌*◌, ◌%◌, ◌≤◌, ◌<◌}
 use native.Mathlib.Decide.{dec_lt}
 use native.Mathlib.Nat.{mod-eq_of_lt, lt_of_not-le, le_of_suc-le-suc}
 use native.Mathlib.Omega.{arith}
-use borrow.Author.Tests.{ne_eqb, eq-eqb, lt-ltb, le-ltb, le-leb, lt-leb, eqb-true}
-use lib.Dec.{T, ltb, leb, eqb}
+use borrow.Author.Tests.{lt-ltb, le-ltb, eqb-true}
+use lib.Dec.{T, ltb, eqb}
+use Rattle.std.specs.Prelude.{Result, Ok, Err}
+use Rattle.refusals.specs.declared.Refusal.{Refusal}
+use Rattle.refusals.specs.declared.Refusal.TheVariants.{Reading as Unlawful}
+use Rattle.refusals.specs.Definitions.Outcomes.{outcome}
+use Rattle.refusals.proofs.Outcomes.{refuses, accepts}
 use lib.Ieee.{Float, nan, inf, fin, binary32, le, lt, eq, is_nan, nan_bits, to_bits, of_bits}
 use lib.Ieee.Bits.{is_true, nan_bits_above, nan_bits_is, to_bits-of_bits, of_bits-to_bits, to_bits-lt}
 use Rattle.mathematics.proofs.Tests.{both}
-use Rattle.pyramid.proofs.Refusals.{unless_passes, unless_fails, leaves_new, leaves_kept}
+use Rattle.pyramid.specs.Definitions.Refusals.{unless}
+use Rattle.pyramid.proofs.Refusals.{unless_passes, unless_fails, leaves_new, leaves_kept, outcome_left}
 use Rattle.bale.specs.declared.Reading.{Reading}
 use Rattle.bale.specs.declared.Reading.TheVariants.{NotFitted, Percentage, Fault}
-use Rattle.bale.specs.declared.Note.{Note}
-use Rattle.bale.specs.declared.Code.{Code}
-use Rattle.bale.specs.declared.Probe.{Probe}
-use Rattle.bale.specs.Definitions.Readings.{percentage_ok, fault_ok, HeldReading, code_where, code_of, reading_ok, note_ok, probe_where, decode}
+use Rattle.bale.specs.Definitions.Readings.{CodeAnswer, ReadingAnswer, code_in, percentage_ok, fault_ok, HeldReading, code_where, code_of, reading_ok, probe_where, decode}
 
 abbrev hundred : Float
 hundred = of_bits binary32 0x42C8_0000
@@ -75,24 +78,12 @@ module _ (n : ℕ) where
           (nan-not-le _ _ (sym (nan_bits_is binary32 n) ∙ nan_bits_above binary32 n ∙ ap (ltb 0x7F80_0000) m ∙ lt-ltb 0x7F80_0000 n h))
       pick (no l) = percentage_signed n (of_bits binary32 n) (le_of_suc-le-suc (lt_of_not-le l))
 
-  fault_yes : 1 ≤ n → n ≤ 255 → fault_ok n ≡ true
-  unfolding fault_ok
-  fault_yes h l = rw (le-leb _ _ h, le-leb _ _ l)
-
-  fault_low : n < 1 → fault_ok n ≡ false
-  unfolding fault_ok
-  fault_low h = rw (lt-leb _ _ h)
-
-  fault_high : 255 < n → fault_ok n ≡ false
-  unfolding fault_ok
-  fault_high h = rw (lt-leb n 255 h) (and-false (leb 1 n))
-
 -- ---- a code or a reading where its rule holds
 
-abbrev no_code : Code
+abbrev no_code : CodeAnswer
 no_code = record { refusal = 4; kind = 0; number = 0 }
 
-abbrev no_probe : Probe
+abbrev no_probe : ReadingAnswer
 no_probe = record { refusal = 4; reading = NotFitted }
 
 module _ (kind number : ℕ) where
@@ -119,95 +110,7 @@ module _ (r : Reading) where
 
   probed_holds : (ok : Bool) → (probe_where ok r).refusal ≡ 0 → ok ≡ true
   probed_holds true e = refl
-  probed_holds false e = let f = ap (λ (x : Probe). x.refusal) (where_not_probed {ok = false} refl) ∙ e in absurd (omega arith)
-
--- ---- the code of a reading
-
-pub code_none : {r : Reading} → r ≡ NotFitted → record { refusal = 0; kind = 0; number = 0 } ≡ code_of r
-unfolding code_of
-code_none p = where_coded 0 0 refl ∙ sym (ap code_of p)
-
-module _ {r : Reading} {x : Float} (p : r ≡ Percentage x) where
-  pub code_percentage : to_bits binary32 x < 0x8000_0000 → le x hundred ≡ true → record { refusal = 0; kind = 1; number = to_bits binary32 x } ≡ code_of r
-  unfolding code_of
-  code_percentage h e = where_coded 1 _ (percentage_yes _ x h e) ∙ sym (ap code_of p)
-
-  pub code_signed : 0x8000_0000 ≤ to_bits binary32 x → no_code ≡ code_of r
-  unfolding code_of
-  code_signed h = where_not-coded 1 _ (percentage_signed _ x h) ∙ sym (ap code_of p)
-
-  pub code_above : le x hundred ≡ false → no_code ≡ code_of r
-  unfolding code_of
-  code_above e = where_not-coded 1 _ (percentage_above _ x e) ∙ sym (ap code_of p)
-
-module _ {r : Reading} {n : ℕ} (p : r ≡ Fault n) where
-  pub code_fault : 1 ≤ n → n ≤ 255 → record { refusal = 0; kind = 2; number = n } ≡ code_of r
-  unfolding code_of
-  code_fault h l = where_coded 2 n (fault_yes n h l) ∙ sym (ap code_of p)
-
-  pub code_low : n < 1 → no_code ≡ code_of r
-  unfolding code_of
-  code_low h = where_not-coded 2 n (fault_low n h) ∙ sym (ap code_of p)
-
-  pub code_high : 255 < n → no_code ≡ code_of r
-  unfolding code_of
-  code_high h = where_not-coded 2 n (fault_high n h) ∙ sym (ap code_of p)
-
-module _ (note : Note) {first : Code} (f : first ≡ code_of note.before_drier) where
-  pub note_first : (first.refusal ≡ 0 → ⊥) → false ≡ note_ok note
-  unfolding note_ok
-  note_first h = rw (← f, ne_eqb _ _ h)
-
-  pub note_second : {second : Code} → first.refusal ≡ 0 → second ≡ code_of note.at_press → eqb second.refusal 0 ≡ note_ok note
-  unfolding note_ok
-  note_second h e = rw (← f, eq-eqb _ _ h, e)
-
--- ---- the reading of a kind and a number
-
-pub decode_other : (k n : ℕ) → (k ≡ 0 → ⊥) → (k ≡ 1 → ⊥) → (k ≡ 2 → ⊥) → no_probe ≡ decode k n
-unfolding decode
-decode_other zero n a b c = absurd (a refl)
-decode_other (suc zero) n a b c = absurd (b refl)
-decode_other (suc (suc zero)) n a b c = absurd (c refl)
-decode_other (suc (suc (suc k))) n a b c = where_not_probed NotFitted refl
-
-module _ {k : ℕ} (n : ℕ) (p : k ≡ 0) where
-  pub decode_none : n ≡ 0 → record { refusal = 0; reading = NotFitted } ≡ decode k n
-  unfolding decode
-  decode_none h = where_probed NotFitted (eq-eqb n 0 h) ∙ ap (λ (x : ℕ). decode x n) (sym p)
-
-  pub decode_some : (n ≡ 0 → ⊥) → no_probe ≡ decode k n
-  unfolding decode
-  decode_some h = where_not_probed NotFitted (ne_eqb n 0 h) ∙ ap (λ (x : ℕ). decode x n) (sym p)
-
-module _ {k : ℕ} (n : ℕ) (p : k ≡ 1) where
-  pub decode_percentage : n ≤ 0x7F80_0000 → le (of_bits binary32 n) hundred ≡ true
-      → record { refusal = 0; reading = Percentage (of_bits binary32 n) } ≡ decode k n
-  unfolding decode
-  decode_percentage h e = where_probed _ (percentage_yes n _ (omega arith) e) ∙ ap (λ (x : ℕ). decode x n) (sym p)
-
-  pub decode_above : le (of_bits binary32 n) hundred ≡ false → no_probe ≡ decode k n
-  unfolding decode
-  decode_above e = where_not_probed _ (percentage_above n _ e) ∙ ap (λ (x : ℕ). decode x n) (sym p)
-
-  pub decode_beyond : 0x7F80_0000 < n → no_probe ≡ decode k n
-  unfolding decode
-  decode_beyond h = where_not_probed _ (percentage_beyond n h) ∙ ap (λ (x : ℕ). decode x n) (sym p)
-
-module _ {k : ℕ} (n : ℕ) (p : k ≡ 2) where
-  pub decode_fault : 1 ≤ n → n ≤ 255 → record { refusal = 0; reading = Fault n } ≡ decode k n
-  unfolding decode
-  decode_fault h l = where_probed _ (fault_yes n h l) ∙ ap (λ (x : ℕ). decode x n) (sym p)
-
-  pub decode_low : n < 1 → no_probe ≡ decode k n
-  unfolding decode
-  decode_low h = where_not_probed _ (fault_low n h) ∙ ap (λ (x : ℕ). decode x n) (sym p)
-
-  pub decode_high : 255 < n → no_probe ≡ decode k n
-  unfolding decode
-  decode_high h = where_not_probed _ (fault_high n h) ∙ ap (λ (x : ℕ). decode x n) (sym p)
-
--- ---- a reading that is written and read back is the same reading, bit for bit; and one that is read is written as it was
+  probed_holds false e = let f = ap (λ (x : ReadingAnswer). x.refusal) (where_not_probed {ok = false} refl) ∙ e in absurd (omega arith)
 
 percentage_coded : (x : Float) → T (reading_ok (Percentage x)) → percentage_ok (to_bits binary32 x) x ≡ true
 unfolding code_of
@@ -216,6 +119,113 @@ percentage_coded x t = coded_holds 1 _ _ t
 fault_coded : (n : ℕ) → T (reading_ok (Fault n)) → fault_ok n ≡ true
 unfolding code_of
 fault_coded n t = coded_holds 2 n _ t
+
+-- ---- what is answered of a reading, of a note, and of a kind and a number
+
+where_ok : (ok : Bool) → ok ≡ eqb (unless ok 4) 0
+unfolding unless
+where_ok true = refl
+where_ok false = refl
+
+pub none_ok : {r : Reading} → r ≡ NotFitted → true ≡ reading_ok r
+unfolding code_of code_where
+none_ok p = rw p (where_ok true)
+
+pub percentage_low : {r : Reading} {x : Float} → r ≡ Percentage x → le x hundred ≡ true → ltb (to_bits binary32 x) 0x8000_0000 ≡ reading_ok r
+unfolding code_of code_where percentage_ok
+percentage_low {r} {x} p e = rw (p, e, and-true (ltb (to_bits binary32 x) 0x8000_0000)) (where_ok _)
+
+pub percentage_high : {r : Reading} {x : Float} → r ≡ Percentage x → le x hundred ≡ false → le x hundred ≡ reading_ok r
+unfolding code_of code_where percentage_ok
+percentage_high {r} {x} p e = rw (p, e, and-false (ltb (to_bits binary32 x) 0x8000_0000)) (where_ok false)
+
+pub fault_is : {r : Reading} {n : ℕ} {ok : Bool} → r ≡ Fault n → ok ≡ fault_ok n → ok ≡ reading_ok r
+unfolding code_of code_where
+fault_is p e = rw (p, e) (where_ok _)
+
+-- the code of a reading that a file can hold
+pub code_none : {r : Reading} → r ≡ NotFitted → record { kind = 0; number = 0 } ≡ code_in (code_of r)
+unfolding code_of
+code_none p = rw (p, ← where_coded 0 0 {ok = true} refl)
+
+pub code_percentage : {r : Reading} {x : Float} → r ≡ Percentage x → T (reading_ok r) → record { kind = 1; number = to_bits binary32 x } ≡ code_in (code_of r)
+unfolding code_of
+code_percentage {r} {x} p t = let u : T (reading_ok (Percentage x)) = rw p at t in rw (p, ← where_coded 1 (to_bits binary32 x) (percentage_coded x u))
+
+pub code_fault : {r : Reading} {n : ℕ} → r ≡ Fault n → T (reading_ok r) → record { kind = 2; number = n } ≡ code_in (code_of r)
+unfolding code_of
+code_fault {r} {n} p t = let u : T (reading_ok (Fault n)) = rw p at t in rw (p, ← where_coded 2 n (fault_coded n u))
+
+-- what is answered of a reading
+module _ (r : Reading) where
+  coded_refusal : (code_of r).refusal ≡ unless (reading_ok r) 4
+  unfolding code_of code_where
+  coded_refusal = four r
+    where
+      four : (r : Reading) → (code_of r).refusal ≡ unless (reading_ok r) 4
+      four NotFitted = ap (λ (b : Bool). unless b 4) (where_ok true)
+      four (Percentage x) = ap (λ (b : Bool). unless b 4) (where_ok _)
+      four (Fault n) = ap (λ (b : Bool). unless b 4) (where_ok _)
+
+  pub coded : true ≡ reading_ok r → Ok (code_in (code_of r)) ≡ outcome (code_of r).refusal (code_in (code_of r))
+  coded e = accepts _ (coded_refusal ∙ unless_passes 4 (sym e))
+
+  pub not_coded : false ≡ reading_ok r → Err Unlawful ≡ outcome (code_of r).refusal (code_in (code_of r))
+  not_coded e = refuses _ Unlawful (sym (coded_refusal ∙ unless_fails 4 (sym e)))
+
+-- a reading that has a code is no NaN
+pub coded_number : {r : Reading} {x : Float} → r ≡ Percentage x → T (reading_ok r) → T (not (is_nan x))
+coded_number {r} {x} p t =
+    let u : T (reading_ok (Percentage x)) = rw p at t in le_no_nan x hundred (percentage_most (to_bits binary32 x) x (percentage_coded x u))
+
+-- what is answered of a kind and a number
+module _ (ok : Bool) (r : Reading) where
+  probed : outcome (unless ok 4) r ≡ outcome (probe_where ok r).refusal (probe_where ok r).reading
+  unfolding probe_where
+  probed = sym (outcome_left (unless ok 4) r NotFitted)
+
+  probed_yes : ok ≡ true → Ok r ≡ outcome (probe_where ok r).refusal (probe_where ok r).reading
+  probed_yes e = accepts r (unless_passes 4 e) ∙ probed
+
+  probed_no : ok ≡ false → Err Unlawful ≡ outcome (probe_where ok r).refusal (probe_where ok r).reading
+  probed_no e = refuses r Unlawful (sym (unless_fails 4 e)) ∙ probed
+
+pub decode_none : {k : ℕ} (n : ℕ) {a : Result Reading Refusal} → k ≡ 0 → a ≡ outcome (unless (eqb n 0) 4) NotFitted
+    → a ≡ outcome (decode k n).refusal (decode k n).reading
+unfolding decode
+decode_none n p e = rw p (e ∙ probed _ _)
+
+pub decode_one : {k : ℕ} (n : ℕ) {a : Result Reading Refusal} → k ≡ 1 → a ≡ outcome (decode 1 n).refusal (decode 1 n).reading
+    → a ≡ outcome (decode k n).refusal (decode k n).reading
+decode_one n p e = rw p e
+
+module _ (n : ℕ) where
+  pub decode_percentage : n ≤ 0x7F80_0000 → le (of_bits binary32 n) hundred ≡ true
+      → Ok (Percentage (of_bits binary32 n)) ≡ outcome (decode 1 n).refusal (decode 1 n).reading
+  unfolding decode
+  decode_percentage h e = probed_yes _ _ (percentage_yes n _ (omega arith) e)
+
+  pub decode_above : le (of_bits binary32 n) hundred ≡ false → Err Unlawful ≡ outcome (decode 1 n).refusal (decode 1 n).reading
+  unfolding decode
+  decode_above e = probed_no _ _ (percentage_above n _ e)
+
+  pub decode_beyond : 0x7F80_0000 < n → Err Unlawful ≡ outcome (decode 1 n).refusal (decode 1 n).reading
+  unfolding decode
+  decode_beyond h = probed_no _ _ (percentage_beyond n h)
+
+pub decode_fault : {k : ℕ} (n : ℕ) {ok : Bool} {a : Result Reading Refusal} → k ≡ 2 → ok ≡ fault_ok n → a ≡ outcome (unless ok 4) (Fault n)
+    → a ≡ outcome (decode k n).refusal (decode k n).reading
+unfolding decode
+decode_fault n p f e = rw (p, ← f) (e ∙ probed _ _)
+
+pub decode_other : (k n : ℕ) → 3 ≤ k → Err Unlawful ≡ outcome (decode k n).refusal (decode k n).reading
+unfolding decode
+decode_other zero n h = absurd (omega arith)
+decode_other (suc zero) n h = absurd (omega arith)
+decode_other (suc (suc zero)) n h = absurd (omega arith)
+decode_other (suc (suc (suc k))) n h = probed_no false NotFitted refl
+
+-- ---- a reading that is written and read back is the same reading, bit for bit; and one that is read is written as it was
 
 pub number_small : (r : Reading) → HeldReading r → T (reading_ok r) → (code_of r).number < 2 * 0x8000_0000
 unfolding code_of

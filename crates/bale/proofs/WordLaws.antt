@@ -1,21 +1,21 @@
 -- Laws of bytes, low byte first, and of indices in two's complement. Assumes nothing.
-use mathlib.Core.Path.{◌≡◌, refl, sym, ap, ◌∙◌, subst}
+use mathlib.Core.Path.{◌≡◌, refl, sym, ap, ◌∙◌}
 use mathlib.Core.Bool.{Bool, true, false, cond}
-use mathlib.Core.List.{List, [], ◌∷◌, ◌++◌}
-use Prim.Native.Nat.{ℕ, suc, ◌+◌, ◌-◌, ◌*◌, ◌/◌, ◌%◌, ◌≤◌, ◌<◌}
-use native.Mathlib.Nat.{add-zero, div-div-eq-div-mul, div-add-mod', mod-eq_of_lt}
+use mathlib.Core.List.{List, [], ◌∷◌}
+use Prim.Native.Nat.{ℕ, suc, ◌+◌, ◌-◌, ◌*◌, ◌/◌, ◌%◌, ◌<◌}
+use native.Mathlib.Nat.{div-div-eq-div-mul, div-add-mod', mod-eq_of_lt}
 use native.Mathlib.Omega.{arith}
-use borrow.Author.Tests.{ltb-true}
-use lib.Dec.{T, ltb}
-use lib.IntN.{ℤ, pos, negsuc, nat_abs, ◌-ℤ◌}
-use lib.ListN.{length, set}
-use lib.Signed.{lt_z, non_neg}
-use mir.Facts.{to_z-of_z, of_z-to_z, Fits-of_z, to_z_pos}
-use mir.Syntax.{w16}
-use mir.Val.{Fits, SFits, of_z, to_z, sel}
+use borrow.Rule.Slice.PartMut.{put_mid}
+use lib.Dec.{ltb}
+use lib.IntN.{ℤ, pos, negsuc, ◌-ℤ◌}
+use lib.ListN.{length}
+use lib.Seq.{drop-drop}
+use mir.Facts.{to_z-of_z, of_z-to_z, Fits-of_z}
+use mir.Syntax.{w16, w32}
+use mir.Val.{SFits, of_z, to_z, sel}
+use Rattle.std.specs.Int.{to_le_bytes}
 use Rattle.mathematics.specs.Inner.Splices.{splice}
 use Rattle.mathematics.proofs.Integers.{ints}
-use Rattle.mathematics.proofs.Splices.{splice_nil, splice-set}
 use Rattle.bale.specs.Definitions.Words.{le16, le32, index_word, word_index}
 
 -- ---- numbers and their digits, each a byte
@@ -63,33 +63,19 @@ digits32 n h =
         → r0 + 256 * r1 + 65536 * r2 + 16777216 * r3 ≡ n
     linear r0 r1 r2 r3 a b c n p q r t = omega arith
 
--- ---- stores, one after the other, are a splice
+-- ---- the library's bytes are these, and a part that is replaced is a splice
 
-store_next : (at : ℕ) (xs l : List ℕ) {m : List ℕ} {k : ℕ} (v : ℕ) → m ≡ splice at xs l → k ≡ at + length xs → k < length l
-    → set m k v ≡ splice at (xs ++ (v ∷ [])) l
-store_next at xs l v p e h = rw (p, e) (splice-set at xs l (omega arith) v (omega arith))
-
-store_first : (l : List ℕ) (at v : ℕ) → at < length l → set l at v ≡ splice at (v ∷ []) l
-store_first l at v h = store_next at [] l v (sym (splice_nil at l)) (sym (add-zero at)) h
-
-pub two_stores : (l : List ℕ) (at n : ℕ) → n < 65536 → at + 2 ≤ length l → set (set l at (n % 256)) (at + 1) (n / 256) ≡ splice at (le16 n) l
+pub low_bytes16 : (n : ℕ) → to_le_bytes w16 n ≡ le16 n
 unfolding le16
-two_stores l at n h fits =
-    let q : n / 256 % 256 ≡ n / 256 = omega arith in
-    rw q (store_next at (n % 256 ∷ []) l (n / 256) (store_first l at (n % 256) (omega arith)) refl (omega arith))
+low_bytes16 n = refl
 
-pub five_stores : (l : List ℕ) (at kind n : ℕ) → at + 5 ≤ length l
-    → set (set (set (set (set l at kind) (at + 1) (n % 256)) (at + 2) (n / 256 % 256)) (at + 3) (n / 65536 % 256)) (at + 4) (n / 16777216 % 256)
-    ≡ splice at (kind ∷ le32 n) l
+pub low_bytes32 : (n : ℕ) → to_le_bytes w32 n ≡ le32 n
 unfolding le32
-five_stores l at kind n h =
-    let a = n % 256 in
-    let b = n / 256 % 256 in
-    let c = n / 65536 % 256 in
-    let d = n / 16777216 % 256 in
-    let q = store_next at (kind ∷ []) l a (store_first l at kind (omega arith)) refl (omega arith) in
-    let r = store_next at (kind ∷ a ∷ []) l b q refl (omega arith) in
-    store_next at (kind ∷ a ∷ b ∷ c ∷ []) l d (store_next at (kind ∷ a ∷ b ∷ []) l c r refl (omega arith)) refl (omega arith)
+low_bytes32 n = refl
+
+pub put_splice : {A : Type 0} (at k : ℕ) (xs l : List A) → k ≡ length xs → put_mid at k l xs ≡ splice at xs l
+unfolding splice
+put_splice at k xs l e = rw (drop-drop k at l, e)
 
 -- ---- two's complement
 
@@ -119,23 +105,14 @@ index_back n h = rw (word_bits n h, index_bits (to_z w16 n)) (of_z-to_z {w = w16
 pub word_small : (m : ℤ) → SFits w16 m → index_word m < 65536
 word_small m f = rw (index_bits m) (Fits-of_z {w = w16} {z = m} f).fits
 
--- the word of a negative index is 32768 or more, and of another the index itself
-pub record Negative (m : ℤ) : Type 0 where
-  pub low : 65535 - of_z w16 m < 32768
-  pub high : of_z w16 m ≤ 65535
+-- the index of a word is kept by 16 bits
+pub index_held : {m : ℤ} {n : ℕ} → m ≡ word_index n → n < 65536 → to_z w16 (of_z w16 m) ≡ word_index n
+index_held {m} {n} p h = rw (p, word_bits n h, of_z-to_z {w = w16} {n = n} (record { fits = h }))
 
-pub negative : (m : ℤ) → SFits w16 m → lt_z (to_z w16 (of_z w16 m)) (pos 0) ≡ true → Negative m
-negative (pos n) f e = let h = ltb-true n 0 (sym (ap (λ (z : ℤ). lt_z z (pos 0)) (to_z-of_z {w = w16} {z = pos n} f)) ∙ e) in absurd (omega arith)
-negative (negsuc n) f e = let h = f.sfits in record { low = omega arith; high = omega arith }
-
-pub not_negative : (m : ℤ) → SFits w16 m → lt_z (to_z w16 (of_z w16 m)) (pos 0) ≡ false → of_z w16 m < 32768
-not_negative (pos n) f e = f.sfits
-not_negative (negsuc n) f e = absurd (subst T (sym (ap (λ (z : ℤ). lt_z z (pos 0)) (to_z-of_z {w = w16} {z = negsuc n} f)) ∙ e) tt)
-
--- bits below 32768, read as signed, are the number itself
-module _ {n : ℕ} (h : n < 32768) where
-  pub low_is : nat_abs (to_z w16 n) ≡ n
-  low_is = rw (to_z_pos w16 {n = n} h)
-
-  pub low_cast : T (non_neg (to_z w16 n)) × Fits w16 (nat_abs (to_z w16 n))
-  low_cast = rw (to_z_pos w16 {n = n} h) (tt, record { fits = omega arith })
+-- an index that the library reads from a number's bits
+pub index_read : {m : ℤ} (low high : ℕ) → low < 256 → high < 256 → m ≡ to_z w16 (low + high * 256) → to_z w16 (of_z w16 m) ≡ word_index (low + 256 * high)
+index_read low high l h e =
+    let n = low + 256 * high in
+    let same : low + high * 256 ≡ n = omega arith in
+    let fits : n < 65536 = omega arith in
+    rw (e, same, of_z-to_z {w = w16} {n = n} (record { fits = fits })) (sym (word_bits n fits))

@@ -1,119 +1,33 @@
-// Which rule is broken first (document 01, "Who can cause which refusal").
-ghost use Rattle.std.specs.Prelude.{◌≡◌, ◌+◌, ◌*◌, ◌≤◌, ◌<◌, length};
+// Which rule is broken first by the sections of a file (document 01, "Who can cause which refusal").
+ghost use Rattle.std.specs.Prelude.{◌≡◌, ◌+◌, ◌*◌, ◌≤◌, length};
+ghost use Rattle.refusals.specs.Definitions.Outcomes.{outcome};
 ghost use Rattle.mathematics.specs.Definitions.Tests.{all};
 ghost use Rattle.pyramid.specs.Definitions.Sizes.{nodes_at};
-ghost use Rattle.pyramid.specs.Inner.Lawful.{Shaped};
 ghost use Rattle.pyramid.specs.Definitions.Refusals.{index_ok};
 ghost use Rattle.bale.specs.Definitions.Words.{indices_at};
-ghost use Rattle.bale.specs.Definitions.Sections.{section_refusal};
-ghost use Rattle.bale.specs.Definitions.Reader.{settings_in, shape_section_refusal, bins_section_refusal, readings_section_refusal, level_section_refusal, level_sections_refusal, body_refusal};
-ghost use Rattle.bale.specs.Definitions.Calls.{size_answer, write_refusal, read_refusal, check_refusal};
+ghost use Rattle.bale.specs.Definitions.Sections.{end_of, section_refusal};
+ghost use Rattle.bale.specs.Definitions.Reader.{note_in, levels_place, bins_section_refusal, readings_section_refusal, level_section_refusal, level_sections_refusal};
 
-use crate::{FileSize, Note, finding, places, probes, words};
-use pyramid::{IndexRange, Settings};
-
-// The size of a file of settings.
-pub fn size_of(s: Settings) -> FileSize
-    ensures { result ≡ size_answer s }
-{
-    let t = pyramid::total_nodes(s);
-    if t.refusal != 0 {
-        return FileSize {
-            refusal: t.refusal,
-            size: 0,
-        };
-    }
-    FileSize {
-        refusal: 0,
-        size: 24 + 4 * (s.depth as usize + 1) + 2 * t.nodes as usize,
-    }
-}
-
-// What the writer looks for.
-pub fn write_refusal(s: Settings, note: Note, levels: &[i16], room: usize) -> u16
-    ensures { result ≡ write_refusal s note levels.now room }
-{
-    let size = size_of(s);
-    if size.refusal != 0 {
-        return size.refusal;
-    }
-    if !probes::note_ok(note) {
-        return 4;
-    }
-    let refusal = pyramid::levels_refusal(s, levels);
-    if refusal == 6 {
-        return 6;
-    }
-    if room < size.size {
-        return 8;
-    }
-    refusal
-}
-
-// The nodes of a level.
-pub fn nodes_of(s: Settings, level: u16) -> usize
-    requires shaped { Shaped s }
-    requires level_le_depth { level ≤ s.depth }
-    ensures { (result ≡ nodes_at s level) × (result ≤ 16641) }
-{
-    let size = pyramid::level_size(s, level);
-    size.rows as usize * size.columns as usize
-}
+use crate::shaped::ShapedFile;
+use crate::{Note, finding, places, words};
+use pyramid::IndexRange;
+use refusals::Refusal;
 
 // A section's count, and whether its items are all there.
-fn section_refusal(file: &[u8], at: usize, count: u16, size: usize) -> u16
+pub fn check_section(file: &[u8], at: usize, count: u16, size: usize) -> Result<(), Refusal>
     requires { (at ≤ 500000) × (size ≤ 5) }
-    ensures { result ≡ section_refusal file.now at count size }
+    ensures { result ≡ outcome (section_refusal file.now at count size) tt }
 {
     if file.len() < at + 2 {
-        return 9;
+        return Err(Refusal::FileEnds);
     }
     if words::u16_at(file, at) != count {
-        return 10;
+        return Err(Refusal::Count);
     }
     if file.len() < at + 2 + size * count as usize {
-        return 9;
+        return Err(Refusal::FileEnds);
     }
-    0
-}
-
-fn shape_section_refusal(file: &[u8], s: Settings) -> u16
-    requires { s ≡ settings_in file.now }
-    ensures { result ≡ shape_section_refusal file.now }
-{
-    let refusal = section_refusal(file, 0, 4, 2);
-    if refusal != 0 {
-        return refusal;
-    }
-    let shape = pyramid::shape_nodes(s);
-    shape.refusal
-}
-
-fn bins_section_refusal(file: &[u8], s: Settings) -> u16
-    requires s_value { s ≡ settings_in file.now }
-    requires shaped { Shaped s }
-    ensures { result ≡ bins_section_refusal file.now }
-{
-    let refusal = section_refusal(file, places::BINS, s.depth + 1, 2);
-    if refusal != 0 {
-        return refusal;
-    }
-    pyramid::settings_refusal(s)
-}
-
-fn readings_section_refusal(file: &[u8], depth: u16) -> u16
-    ensures { result ≡ readings_section_refusal file.now depth }
-{
-    let refusal = section_refusal(file, places::readings(depth), 2, 5);
-    if refusal != 0 {
-        return refusal;
-    }
-    let drier = finding::probe_at(file, places::drier(depth));
-    if drier.refusal != 0 {
-        return drier.refusal;
-    }
-    let press = finding::probe_at(file, places::press(depth));
-    press.refusal
+    Ok(())
 }
 
 // Every index of a level times its bin lies within 4,096 of 0: the lowest and the highest do.
@@ -122,92 +36,64 @@ fn indices_ok(file: &[u8], at: usize, count: usize, bin: u16) -> bool
     ensures { result ≡ all (index_ok bin) (indices_at file.now at count) }
 {
     let mut range = IndexRange { low: 0, high: 0 };
-    let mut i = 0;
-    while i < count {
-        let index = words::word_index(words::u16_in(file, at + 2 * i));
-        range = pyramid::widened(range, index);
-        i += 1;
+    for i in 0..count {
+        range = pyramid::widened(range, words::index_in(file, at + 2 * i));
     }
     pyramid::range_ok(range, bin)
 }
 
-fn level_section_refusal(file: &[u8], s: Settings, level: u16, at: usize) -> u16
-    requires shaped { Shaped s }
-    requires level_le_depth { (level ≤ s.depth) × (at ≤ 500000) }
-    ensures { result ≡ level_section_refusal file.now s level at }
-{
-    let nodes = nodes_of(s, level);
-    let refusal = section_refusal(file, at, nodes as u16, 2);
-    if refusal != 0 {
-        return refusal;
+impl ShapedFile<'_> {
+    pub fn check_bins(&self) -> Result<(), Refusal>
+        ensures { result ≡ outcome (bins_section_refusal self.now.bytes.now) tt }
+    {
+        check_section(self.bytes, places::BINS, self.shape.settings.depth + 1, 2)?;
+        self.shape.lawful()?;
+        Ok(())
     }
-    let bins = s.bins;
-    if indices_ok(file, at + 2, nodes, bins[level as usize]) {
-        return 0;
-    }
-    11
-}
 
-// The sections of a level and of those below it, and whether the file ends there.
-fn level_sections_refusal(file: &[u8], s: Settings, level: u16, at: usize) -> u16
-    requires shaped { Shaped s }
-    requires level_le_depth { (level ≤ s.depth) × (at + 40000 * level ≤ 400000) }
-    ensures { result ≡ level_sections_refusal file.now s level at }
-{
-    let refusal = level_section_refusal(file, s, level, at);
-    if refusal != 0 {
-        return refusal;
+    // The readings, or the first rule that their section breaks.
+    pub fn note(&self) -> Result<Note, Refusal>
+        ensures { result ≡ outcome (readings_section_refusal self.now.bytes.now self.now.shape.settings.depth)
+            (note_in self.now.bytes.now self.now.shape.settings.depth) }
+    {
+        let depth = self.shape.settings.depth;
+        check_section(self.bytes, places::readings(depth), 2, 5)?;
+        let before_drier = finding::reading_at(self.bytes, places::drier(depth))?;
+        let at_press = finding::reading_at(self.bytes, places::press(depth))?;
+        Ok(Note {
+            before_drier,
+            at_press,
+        })
     }
-    let next = at + 2 + 2 * nodes_of(s, level);
-    if level == 0 {
-        if file.len() == next {
-            return 0;
+
+    // Where a level's section ends, or the first rule that it breaks.
+    fn check_level(&self, level: u16, at: usize) -> Result<usize, Refusal>
+        requires { (level ≤ self.now.shape.settings.depth) × (at ≤ 500000) }
+        ensures { result ≡ outcome (level_section_refusal self.now.bytes.now self.now.shape.settings level at)
+            (end_of at (nodes_at self.now.shape.settings level) 2) }
+    {
+        let nodes = self.shape.level_nodes(level);
+        check_section(self.bytes, at, nodes, 2)?;
+        let bins = self.shape.settings.bins;
+        if !indices_ok(self.bytes, at + 2, nodes as usize, bins[level as usize]) {
+            return Err(Refusal::Index);
         }
-        return 12;
+        Ok(at + 2 + 2 * nodes as usize)
     }
-    level_sections_refusal(file, s, level - 1, next)
-}
 
-fn body_refusal(file: &[u8], s: Settings) -> u16
-    requires s_value { s ≡ settings_in file.now }
-    requires shaped { Shaped s }
-    ensures { result ≡ body_refusal file.now }
-{
-    let bins = bins_section_refusal(file, s);
-    if bins != 0 {
-        return bins;
+    // The sections of all levels, and whether the file ends there.
+    pub fn check_levels(&self) -> Result<(), Refusal>
+        ensures { result ≡ outcome (level_sections_refusal self.now.bytes.now self.now.shape.settings self.now.shape.settings.depth
+            (levels_place self.now.shape.settings.depth)) tt }
+    {
+        let depth = self.shape.settings.depth;
+        let mut at = places::levels(depth);
+        for level in (0..=depth).rev() {
+            at = self.check_level(level, at)?;
+        }
+        if self.bytes.len() != at {
+            return Err(Refusal::BytesAfter);
+        }
+        Ok(())
     }
-    let readings = readings_section_refusal(file, s.depth);
-    if readings != 0 {
-        return readings;
-    }
-    level_sections_refusal(file, s, s.depth, places::levels(s.depth))
-}
-
-// What the reader looks for that is lent a level buffer of so many places.
-pub fn read_refusal(file: &[u8], s: Settings, places: usize) -> u16
-    requires { s ≡ settings_in file.now }
-    ensures { result ≡ read_refusal file.now places }
-{
-    let refusal = shape_section_refusal(file, s);
-    if refusal != 0 {
-        return refusal;
-    }
-    let shape = pyramid::shape_nodes(s);
-    if places != shape.nodes as usize {
-        return 6;
-    }
-    body_refusal(file, s)
-}
-
-// What the reader looks for that is lent none.
-pub fn check_refusal(file: &[u8], s: Settings) -> u16
-    requires { s ≡ settings_in file.now }
-    ensures { result ≡ check_refusal file.now }
-{
-    let refusal = shape_section_refusal(file, s);
-    if refusal != 0 {
-        return refusal;
-    }
-    body_refusal(file, s)
 }

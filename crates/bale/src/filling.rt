@@ -1,48 +1,36 @@
 // The indices of a file that is accepted, into the level buffer.
 ghost use Rattle.std.specs.Prelude.{◌≡◌, ◌+◌, ◌*◌, ◌≤◌, length};
-ghost use Rattle.mathematics.specs.Inner.Splices.{splice};
-ghost use Rattle.pyramid.specs.Definitions.Sizes.{nodes_to};
-ghost use Rattle.pyramid.specs.Inner.Lawful.{Shaped};
 ghost use Rattle.bale.specs.Definitions.Words.{indices_at};
-ghost use Rattle.bale.specs.Definitions.Reader.{settings_in, levels_from, levels_in};
+ghost use Rattle.bale.specs.Definitions.Reader.{levels_in};
 ghost use Rattle.bale.specs.Definitions.Calls.{read_refusal};
 
-use crate::{checking, places, words};
-use pyramid::Settings;
+use crate::shaped::ShapedFile;
+use crate::{places, words};
 
-// So many indices of the file, from a place on, into the level buffer's places from `from` on.
-fn fill_indices(file: &[u8], at: usize, count: usize, levels: &mut [i16], from: usize)
-    requires { (at + 2 * count ≤ length file.now) × (from + count ≤ length levels.old) }
-    ensures { levels.new ≡
-        splice from (indices_at file.now at count) levels.old }
+// The indices of a level's places, from a place of the file on.
+fn fill_indices(file: &[u8], at: usize, levels: &mut [i16])
+    requires { at + 2 * length levels.old ≤ length file.now }
+    ensures { levels.new ≡ indices_at file.now at (length levels.old) }
 {
-    let mut i = 0;
-    while i < count {
-        levels[from + i] = words::word_index(words::u16_in(file, at + 2 * i));
-        i += 1;
+    for (i, index) in levels.iter_mut().enumerate() {
+        *index = words::index_in(file, at + 2 * i);
     }
 }
 
-// The indices of a level and of those below it.
-fn fill_levels(file: &[u8], s: Settings, level: u16, at: usize, levels: &mut [i16], from: usize)
-    requires shaped { Shaped s }
-    requires level_le_depth { (level ≤ s.depth) × (from + nodes_to s level ≤ length levels.old)
-        × (at + 2 * (level + 1) + 2 * nodes_to s level ≤ length file.now) }
-    ensures { levels.new ≡
-        splice from (levels_from file.now s level at) levels.old }
-{
-    let nodes = checking::nodes_of(s, level);
-    fill_indices(file, at + 2, nodes, levels, from);
-    if level != 0 {
-        fill_levels(file, s, level - 1, at + 2 + 2 * nodes, levels, from + nodes);
+impl ShapedFile<'_> {
+    // The indices of all levels, level N first.
+    pub fn fill(&self, levels: &mut [i16])
+        requires { read_refusal self.now.bytes.now (length levels.old) ≡ 0 }
+        ensures { levels.new ≡ levels_in self.now.bytes.now }
+    {
+        let depth = self.shape.settings.depth;
+        let mut at = places::levels(depth);
+        let mut from = 0;
+        for level in (0..=depth).rev() {
+            let nodes = self.shape.level_nodes(level) as usize;
+            fill_indices(self.bytes, at + 2, &mut levels[from..from + nodes]);
+            at += 2 + 2 * nodes;
+            from += nodes;
+        }
     }
-}
-
-// All indices.
-pub fn fill(file: &[u8], s: Settings, levels: &mut [i16])
-    requires s_value { s ≡ settings_in file.now }
-    requires levels_value { read_refusal file.now (length levels.old) ≡ 0 }
-    ensures { levels.new ≡ levels_in file.now }
-{
-    fill_levels(file, s, s.depth, places::levels(s.depth), levels, 0);
 }

@@ -1,115 +1,105 @@
-// Probe readings and their kind and number (document 01, "Bale file").
-ghost use Rattle.std.specs.Prelude.{◌≡◌};
-ghost use Rattle.bale.specs.Definitions.Readings.{code_of, decode, note_ok};
+// Probe readings, and the kind and the number that stand for one (document 01, "Bale file").
+ghost use Rattle.std.specs.Prelude.{◌≡◌, T};
+ghost use Rattle.refusals.specs.Definitions.Outcomes.{outcome};
+ghost use Rattle.pyramid.specs.Definitions.Refusals.{unless};
+ghost use Rattle.bale.specs.Definitions.Readings.{fault_ok, code_in, code_of, reading_ok, note_ok, decode};
 
-use crate::{Code, Note, Probe, Reading};
+use crate::{Code, Note, Reading};
+use refusals::Refusal;
 
-fn code(kind: u8, number: u32) -> Code
-    ensures { result ≡ record { refusal = 0; kind = kind; number = number } }
+// Whether a fault code is 1 to 255.
+#[tactic(auto, unfolding(crate::specs::Definitions::Readings::fault_ok))]
+fn fault_ok(code: u32) -> bool
+    ensures { result ≡ fault_ok code }
 {
-    Code {
-        refusal: 0,
-        kind: kind,
-        number: number,
-    }
+    (1..=255).contains(&code)
 }
 
-fn no_code() -> Code
-    ensures { result ≡ record { refusal = 4; kind = 0; number = 0 } }
-{
-    Code {
-        refusal: 4,
-        kind: 0,
-        number: 0,
-    }
-}
-
-// The kind and the number of a reading.
-pub fn code_of(reading: Reading) -> Code
-    ensures { result ≡ code_of reading }
-{
-    match reading {
-        Reading::NotFitted => code(0, 0),
-        Reading::Percentage(x) => {
-            if x <= 100.0 {
-                let bits = f32::to_bits(x);
-                if bits < 0x8000_0000 {
-                    return code(1, bits);
-                }
-            }
-            no_code()
+impl Reading {
+    // Whether a file can hold the reading.
+    pub(crate) fn is_lawful(self) -> bool
+        ensures { result ≡ reading_ok self }
+    {
+        match self {
+            Reading::NotFitted => true,
+            Reading::Percentage(x) => x <= 100.0 && x.to_bits() < 0x8000_0000,
+            Reading::Fault(n) => fault_ok(n),
         }
-        Reading::Fault(n) => {
-            if 1 <= n {
-                if n <= 255 {
-                    return code(2, n);
-                }
-            }
-            no_code()
+    }
+
+    // The kind and the number of a reading that a file can hold.
+    pub(crate) fn code(self) -> Code
+        requires { T (reading_ok self) }
+        ensures { result ≡ code_in (code_of self) }
+    {
+        match self {
+            Reading::NotFitted => Code { kind: 0, number: 0 },
+            Reading::Percentage(x) => Code {
+                kind: 1,
+                number: x.to_bits(),
+            },
+            Reading::Fault(n) => Code { kind: 2, number: n },
         }
     }
 }
 
-// Whether both readings of a note are lawful.
-pub fn note_ok(note: Note) -> bool
-    ensures { result ≡ note_ok note }
-{
-    let drier = note.before_drier;
-    let press = note.at_press;
-    let first = code_of(drier);
-    if first.refusal != 0 {
-        return false;
-    }
-    let second = code_of(press);
-    second.refusal == 0
-}
-
-fn no_probe() -> Probe
-    ensures { result ≡ record { refusal = 4; reading = Reading.NotFitted } }
-{
-    Probe {
-        refusal: 4,
-        reading: Reading::NotFitted,
+impl Note {
+    // Whether a file can hold both readings.
+    pub(crate) fn is_lawful(self) -> bool
+        ensures { result ≡ note_ok self }
+    {
+        self.before_drier.is_lawful() && self.at_press.is_lawful()
     }
 }
 
-// The reading that a kind byte and a number stand for.
-pub fn decoded(kind: u8, number: u32) -> Probe
-    ensures { result ≡ decode kind number }
+impl TryFrom<Reading> for Code {
+    type Error = Refusal;
+
+    ghost try_from_gives = { λ reading code. code ≡ outcome (code_of reading).refusal (code_in (code_of reading)) };
+
+    fn try_from(reading: Reading) -> Result<Code, Refusal> {
+        if reading.is_lawful() {
+            Ok(reading.code())
+        } else {
+            Err(Refusal::Reading)
+        }
+    }
+}
+
+// A reading where its rule holds.
+fn reading_where(holds: bool, reading: Reading) -> Result<Reading, Refusal>
+    ensures { result ≡ outcome (unless holds 4) reading }
 {
-    match kind {
-        0 => {
-            if number == 0 {
-                return Probe {
-                    refusal: 0,
-                    reading: Reading::NotFitted,
-                };
-            }
-            no_probe()
+    if holds {
+        Ok(reading)
+    } else {
+        Err(Refusal::Reading)
+    }
+}
+
+// The percentage of some bits: those above +infinity's are a NaN's, or have the sign bit set.
+fn percentage(bits: u32) -> Result<Reading, Refusal>
+    ensures { result ≡ outcome (decode 1 bits).refusal (decode 1 bits).reading }
+{
+    if bits <= 0x7F80_0000 && f32::from_bits(bits) <= 100.0 {
+        Ok(Reading::Percentage(f32::from_bits(bits)))
+    } else {
+        Err(Refusal::Reading)
+    }
+}
+
+impl TryFrom<Code> for Reading {
+    type Error = Refusal;
+
+    ghost try_from_gives = { λ code reading. reading ≡ outcome (decode code.kind code.number).refusal (decode code.kind code.number).reading };
+
+    fn try_from(code: Code) -> Result<Reading, Refusal> {
+        let number = code.number;
+        match code.kind {
+            0 => reading_where(number == 0, Reading::NotFitted),
+            1 => percentage(number),
+            2 => reading_where(fault_ok(number), Reading::Fault(number)),
+            3..=255 => Err(Refusal::Reading),
         }
-        1 => {
-            if number <= 0x7F80_0000 {
-                let x = f32::from_bits(number);
-                if x <= 100.0 {
-                    return Probe {
-                        refusal: 0,
-                        reading: Reading::Percentage(x),
-                    };
-                }
-            }
-            no_probe()
-        }
-        2 => {
-            if 1 <= number {
-                if number <= 255 {
-                    return Probe {
-                        refusal: 0,
-                        reading: Reading::Fault(number),
-                    };
-                }
-            }
-            no_probe()
-        }
-        3..=255 => no_probe(),
     }
 }

@@ -1,15 +1,15 @@
 // The sections of a file, one after the other, into the writer's buffer (document 01, "Bale file").
-ghost use Rattle.std.specs.Prelude.{◌≡◌, ◌++◌, ◌∷◌, map, ◌+◌, ◌*◌, ◌≤◌, ◌<◌, T, length, drop};
+ghost use Rattle.std.specs.Prelude.{◌≡◌, ◌++◌, ◌∷◌, map, ◌+◌, ◌*◌, ◌≤◌, T, length, drop};
 ghost use Rattle.mathematics.specs.Inner.Splices.{splice};
-ghost use Rattle.pyramid.specs.Definitions.Sizes.{nodes_to};
-ghost use Rattle.pyramid.specs.Inner.Lawful.{Shaped};
+ghost use Rattle.pyramid.specs.Definitions.Sizes.{total};
 ghost use Rattle.bale.specs.Definitions.Words.{le32, words, index_word};
 ghost use Rattle.bale.specs.Definitions.Readings.{reading_ok, note_ok, reading_bytes};
-ghost use Rattle.bale.specs.Definitions.Files.{shape_section, bins_from, bins_section, readings_section, level_section, level_sections, file_of, file_length};
+ghost use Rattle.bale.specs.Definitions.Files.{shape_section, bins_section, readings_section, level_section, level_sections, file_of, file_length};
+ghost use Rattle.bale.specs.Definitions.Reader.{bins_place, readings_place, levels_place};
 ghost use Rattle.bale.specs.Definitions.Calls.{write_refusal};
 
-use crate::{Note, Reading, checking, places, probes, words};
-use pyramid::Settings;
+use crate::{Code, Note, Reading, places, words};
+use pyramid::{Settings, Shape};
 
 fn put_shape(s: Settings, file: &mut [u8])
     requires { 10 ≤ length file.old }
@@ -22,58 +22,38 @@ fn put_shape(s: Settings, file: &mut [u8])
     words::put_u16(file, 8, s.kernel);
 }
 
-// The bins of a level and of those below it.
-fn put_bins_from(s: Settings, level: u16, file: &mut [u8], at: usize)
-    requires { (level ≤ 6) × (at + 2 * (level + 1) ≤ length file.old) }
-    ensures { file.new ≡ splice at (words (bins_from s level)) file.old }
+// The bins, level N first.
+fn put_bins(shape: Shape, file: &mut [u8])
+    requires { readings_place shape.settings.depth ≤ length file.old }
+    ensures { file.new ≡ splice bins_place (bins_section shape.settings) file.old }
 {
-    let bins = s.bins;
-    words::put_u16(file, at, bins[level as usize]);
-    if level != 0 {
-        put_bins_from(s, level - 1, file, at + 2);
+    let depth = shape.settings.depth;
+    let bins = shape.settings.bins;
+    let mut at = places::BINS;
+    words::put_u16(file, at, depth + 1);
+    for level in (0..=depth).rev() {
+        at += 2;
+        words::put_u16(file, at, bins[level as usize]);
     }
 }
 
-fn put_bins(s: Settings, file: &mut [u8], at: usize)
-    requires shaped { Shaped s }
-    requires depth_in_bounds { at + 2 + 2 * (s.depth + 1) ≤ length file.old }
-    ensures { file.new ≡ splice at (bins_section s) file.old }
-{
-    words::put_u16(file, at, s.depth + 1);
-    put_bins_from(s, s.depth, file, at + 2);
-}
-
 // The five bytes of a kind and a number.
-fn put_code(kind: u8, number: u32, file: &mut [u8], at: usize)
+fn put_code(code: Code, file: &mut [u8], at: usize)
     requires { at + 5 ≤ length file.old }
-    ensures { file.new ≡ splice at (kind ∷ le32 number) file.old }
+    ensures { file.new ≡ splice at (code.kind ∷ le32 code.number) file.old }
 {
-    file[at] = kind;
-    file[at + 1] = (number % 256) as u8;
-    file[at + 2] = (number / 256 % 256) as u8;
-    file[at + 3] = (number / 65536 % 256) as u8;
-    file[at + 4] = (number / 16777216 % 256) as u8;
-}
-
-fn put_reading(reading: Reading, file: &mut [u8], at: usize)
-    requires t { T (reading_ok reading) }
-    requires at_in_bounds { at + 5 ≤ length file.old }
-    ensures { file.new ≡ splice at (reading_bytes reading) file.old }
-{
-    let code = probes::code_of(reading);
-    put_code(code.kind, code.number, file, at);
+    words::put(file, at, &[code.kind]);
+    words::put_u32(file, at + 1, code.number);
 }
 
 fn put_readings(note: Note, file: &mut [u8], at: usize)
-    requires t { T (note_ok note) }
+    requires lawful { T (note_ok note) }
     requires at_in_bounds { at + 12 ≤ length file.old }
     ensures { file.new ≡ splice at (readings_section note) file.old }
 {
-    let drier = note.before_drier;
-    let press = note.at_press;
     words::put_u16(file, at, 2);
-    put_reading(drier, file, at + 2);
-    put_reading(press, file, at + 7);
+    put_code(note.before_drier.code(), file, at + 2);
+    put_code(note.at_press.code(), file, at + 7);
 }
 
 // The numbers of indices.
@@ -82,10 +62,8 @@ fn put_indices(indices: &[i16], file: &mut [u8], at: usize)
     ensures { file.new ≡
         splice at (words (map index_word indices.now)) file.old }
 {
-    let mut i = 0;
-    while i < indices.len() {
-        words::put_u16(file, at + 2 * i, words::index_word(indices[i]));
-        i += 1;
+    for (i, index) in indices.iter().enumerate() {
+        words::put_index(file, at + 2 * i, *index);
     }
 }
 
@@ -98,30 +76,32 @@ fn put_level(indices: &[i16], file: &mut [u8], at: usize)
     put_indices(indices, file, at + 2);
 }
 
-// The sections of a level and of those below it, whose indices stand in the level buffer from `from` on.
-fn put_levels(s: Settings, level: u16, levels: &[i16], from: usize, file: &mut [u8], at: usize)
-    requires shaped { Shaped s }
-    requires level_le_depth { (level ≤ s.depth) × (from + nodes_to s level ≤ length levels.now)
-        × (at + 2 * (level + 1) + 2 * nodes_to s level ≤ length file.old) }
+// The sections of all levels, level N first.
+fn put_levels(shape: Shape, levels: &[i16], file: &mut [u8])
+    requires levels_length { length levels.now ≡ total shape.settings }
+    requires room { file_length shape.settings ≤ length file.old }
     ensures { file.new ≡
-        splice at (level_sections s level (drop from levels.now)) file.old }
+        splice (levels_place shape.settings.depth) (level_sections shape.settings shape.settings.depth levels.now) file.old }
 {
-    let nodes = checking::nodes_of(s, level);
-    let to = from + nodes;
-    put_level(&levels[from..to], file, at);
-    if level != 0 {
-        put_levels(s, level - 1, levels, to, file, at + 2 + 2 * nodes);
+    let depth = shape.settings.depth;
+    let mut at = places::levels(depth);
+    let mut left = levels;
+    for level in (0..=depth).rev() {
+        let (here, below) = left.split_at(shape.level_nodes(level) as usize);
+        put_level(here, file, at);
+        at += 2 + 2 * here.len();
+        left = below;
     }
 }
 
 // A file that the writer accepts.
-pub fn put_file(s: Settings, note: Note, levels: &[i16], file: &mut [u8])
-    requires { write_refusal s note levels.now (length file.old) ≡ 0 }
+pub fn put_file(shape: Shape, note: Note, levels: &[i16], file: &mut [u8])
+    requires { write_refusal shape.settings note levels.now (length file.old) ≡ 0 }
     ensures { file.new ≡
-        file_of s note levels.now ++ drop (file_length s) file.old }
+        file_of shape.settings note levels.now ++ drop (file_length shape.settings) file.old }
 {
-    put_shape(s, file);
-    put_bins(s, file, places::BINS);
-    put_readings(note, file, places::readings(s.depth));
-    put_levels(s, s.depth, levels, 0, file, places::levels(s.depth));
+    put_shape(shape.settings, file);
+    put_bins(shape, file);
+    put_readings(note, file, places::readings(shape.settings.depth));
+    put_levels(shape, levels, file);
 }

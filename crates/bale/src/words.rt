@@ -1,31 +1,21 @@
 // Numbers in a buffer of bytes, low byte first, and indices in two's complement (document 01, "Bale file").
-ghost use Rattle.std.specs.Prelude.{◌≡◌, ◌+◌, ◌*◌, ◌≤◌, ◌<◌, length, get_or};
+ghost use Rattle.std.specs.Prelude.{◌≡◌, ◌+◌, ◌≤◌, length, get_or};
 ghost use Rattle.mathematics.specs.Inner.Splices.{splice};
-ghost use Rattle.bale.specs.Definitions.Words.{le16, u16_at, u32_at, index_word, word_index};
+ghost use Rattle.bale.specs.Definitions.Words.{le16, le32, u16_at, u32_at, index_word, word_index};
 
 // The byte at a place, and 0 past the end.
 pub fn byte_at(bytes: &[u8], at: usize) -> u8
-    ensures { (result ≡ get_or bytes.now at 0) × (result < 256) }
+    ensures { result ≡ get_or bytes.now at 0 }
 {
-    if at < bytes.len() {
-        return bytes[at];
-    }
-    0
-}
-
-// The number of two bytes.
-fn joined(low: u8, high: u8) -> u16
-    ensures { (result ≡ low + 256 * high) × (result < 65536) }
-{
-    low as u16 + 256 * high as u16
+    bytes.get(at).copied().unwrap_or(0)
 }
 
 // The number of the two bytes at a place, past the end too.
 pub fn u16_at(bytes: &[u8], at: usize) -> u16
     requires { at ≤ 1000000 }
-    ensures { (result ≡ u16_at bytes.now at) × (result < 65536) }
+    ensures { result ≡ u16_at bytes.now at }
 {
-    joined(byte_at(bytes, at), byte_at(bytes, at + 1))
+    u16::from_le_bytes([byte_at(bytes, at), byte_at(bytes, at + 1)])
 }
 
 // The number of the four bytes at a place, past the end too.
@@ -33,17 +23,28 @@ pub fn u32_at(bytes: &[u8], at: usize) -> u32
     requires { at ≤ 1000000 }
     ensures { result ≡ u32_at bytes.now at }
 {
-    let low = joined(byte_at(bytes, at), byte_at(bytes, at + 1));
-    let high = joined(byte_at(bytes, at + 2), byte_at(bytes, at + 3));
-    low as u32 + 65536 * high as u32
+    u32::from_le_bytes([
+        byte_at(bytes, at),
+        byte_at(bytes, at + 1),
+        byte_at(bytes, at + 2),
+        byte_at(bytes, at + 3),
+    ])
 }
 
-// The number of the two bytes at a place inside.
-pub fn u16_in(bytes: &[u8], at: usize) -> u16
+// The index of the two bytes at a place inside.
+pub fn index_in(bytes: &[u8], at: usize) -> i16
     requires { at + 2 ≤ length bytes.now }
-    ensures { (result ≡ u16_at bytes.now at) × (result < 65536) }
+    ensures { result ≡ word_index (u16_at bytes.now at) }
 {
-    joined(bytes[at], bytes[at + 1])
+    i16::from_le_bytes([bytes[at], bytes[at + 1]])
+}
+
+// Bytes, at a place.
+pub fn put(file: &mut [u8], at: usize, bytes: &[u8])
+    requires { at + length bytes.now ≤ length file.old }
+    ensures { file.new ≡ splice at bytes.now file.old }
+{
+    file[at..at + bytes.len()].copy_from_slice(bytes);
 }
 
 // The two bytes of a number, at a place.
@@ -51,26 +52,21 @@ pub fn put_u16(file: &mut [u8], at: usize, n: u16)
     requires { at + 2 ≤ length file.old }
     ensures { file.new ≡ splice at (le16 n) file.old }
 {
-    file[at] = (n % 256) as u8;
-    file[at + 1] = (n / 256) as u8;
+    put(file, at, &n.to_le_bytes());
 }
 
-// An index as a number.
-pub fn index_word(m: i16) -> u16
-    ensures { (result ≡ index_word m) × (result < 65536) }
+// The four bytes of a number, at a place.
+pub fn put_u32(file: &mut [u8], at: usize, n: u32)
+    requires { at + 4 ≤ length file.old }
+    ensures { file.new ≡ splice at (le32 n) file.old }
 {
-    if m < 0 {
-        return 65535 - (!m as u16);
-    }
-    m as u16
+    put(file, at, &n.to_le_bytes());
 }
 
-// The index that a number stands for.
-pub fn word_index(n: u16) -> i16
-    ensures { result ≡ word_index n }
+// The two bytes of an index, at a place.
+pub fn put_index(file: &mut [u8], at: usize, m: i16)
+    requires { at + 2 ≤ length file.old }
+    ensures { file.new ≡ splice at (le16 (index_word m)) file.old }
 {
-    if n < 32768 {
-        return n as i16;
-    }
-    !((65535 - n) as i16)
+    put(file, at, &m.to_le_bytes());
 }

@@ -16,7 +16,6 @@ use Rattle.mathematics.proofs.Tests.{both, all_nil, all_append, all_front, all_b
 use Rattle.mathematics.proofs.Tables.{length-tabulate, get_or-tabulate, tabulate-same, all-tabulate, tabulate-all}
 use Rattle.pyramid.specs.declared.Settings.{Settings}
 use Rattle.pyramid.specs.Definitions.Sizes.{Level, columns_at, rows_at, nodes_at, nodes_to, total}
-use Rattle.pyramid.specs.Inner.Rows.{Source}
 use Rattle.pyramid.specs.Definitions.Buffers.{raster, level_raster, stack, all_levels, start, read_levels}
 use Rattle.pyramid.proofs.Sizes.{nodes_to_mono}
 
@@ -31,10 +30,6 @@ row_inside columns {rows} {y} h = omega (arith, mul-le-mul_right columns h, suc-
 
 pub level_small : {columns rows : ℕ} → columns ≤ 129 → rows ≤ 129 → rows * columns ≤ 16641
 level_small h k = omega (arith, mul-le-mul k h)
-
-pub source_row : {least e columns rows : ℕ} {buffer : List ℤ} → Source least e columns rows buffer → (y : ℕ) → y < rows
-    → (y * columns + columns ≤ length buffer) × (length buffer ≤ 16641)
-source_row {columns} s y h = rw s.filled (row_inside columns h, level_small s.wide_most s.high_most)
 
 module _ {A : Type 0} where
   pub length-raster : (columns rows : ℕ) (f : ℕ → ℕ → A) → length (raster columns rows f) ≡ rows * columns

@@ -8,8 +8,7 @@ use lib.IntN.{ℤ, pos, ◌-ℤ◌}
 use lib.ListN.{length, get_or}
 use Rattle.mathematics.specs.Inner.Splices.{splice}
 use Rattle.mathematics.specs.Definitions.Tables.{tabulate}
-use Rattle.mathematics.proofs.Tables.{tabulate-same}
-use Rattle.mathematics.proofs.Filling.{get_or_written}
+use Rattle.mathematics.proofs.Tables.{tabulate-same, get_or-tabulate}
 use Rattle.quantizer.specs.Definitions.Bins.{bin_index}
 use Rattle.pyramid.specs.declared.Settings.{Settings}
 use Rattle.pyramid.specs.Definitions.Settings.{bin}
@@ -46,20 +45,20 @@ module _ {s : Settings} {l : ℕ} {work w : List ℤ} (v : IndexLevel s l work w
         by_length (row_of s l j work) (λ i h. let hi : i < columns_at s l = omega (arith, length_averages) in
         rw (average_node i hi) (within_more {e = limit} (omega arith) (record { small = v.own.small v.deep i j hi turn })))
 
-    module _ {made : List ℤ} (row : List ℤ) (is : made ≡ splice 0 (tabulate (columns_at s l) (λ i. predicted s (s.depth - l) l (read_levels s work) i j)) row) where
+    module _ {made : List ℤ} (is : made ≡ tabulate (columns_at s l) (λ i. predicted s (s.depth - l) l (read_levels s work) i j)) where
       index_node : (i : ℕ) → i < columns_at s l → bin_index (get_or (row_of s l j work) i (pos 0) -ℤ get_or made i (pos 0)) (bin s l) ≡ index_at s (read_levels s work) l i j
       unfolding index_at index_of
-      index_node i hi = rw (average_node i hi, is, get_or_written (columns_at s l) (λ i. predicted s (s.depth - l) l (read_levels s work) i j) row (pos 0) i hi)
+      index_node i hi = rw (average_node i hi, is, get_or-tabulate (columns_at s l) (λ i. predicted s (s.depth - l) l (read_levels s work) i j) (pos 0) i hi)
 
       pub indices_within : IndicesWithin (row_of s l j work) made (bin s l)
       indices_within = record {
         at = λ i h. let hi : i < columns_at s l = omega (arith, length_averages) in rw (index_node i hi) (record { small = v.indices i j hi turn });
       }
 
-      pub index_row : {at : ℕ} {averages levels levels' : List ℤ} → Indices s l work w levels j → at ≡ start s l + j * columns_at s l → averages ≡ row_of s l j work
-          → levels' ≡ splice at (tabulate (length averages) (λ i. bin_index (get_or averages i (pos 0) -ℤ get_or made i (pos 0)) (bin s l))) levels → Indices s l work w levels' (j + 1)
-      index_row {levels = levels} r place e f =
+      pub index_row : {at n : ℕ} {averages levels levels' : List ℤ} → Indices s l work w levels j → at ≡ start s l + j * columns_at s l → averages ≡ row_of s l j work
+          → n ≡ columns_at s l → levels' ≡ splice at (tabulate n (λ i. bin_index (get_or averages i (pos 0) -ℤ get_or made i (pos 0)) (bin s l))) levels → Indices s l work w levels' (j + 1)
+      index_row {levels = levels} r place e width f =
           rendering_next r (omega (arith, level_inside s l v.deep, v.filled))
-          (f ∙ rw (place, e, length_averages)
+          (f ∙ rw (place, e, width)
           (ap (λ (xs : List ℤ). splice (start s l + j * columns_at s l) xs levels) (tabulate-same (columns_at s l) _ _ index_node)))
           turn

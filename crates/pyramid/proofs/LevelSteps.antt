@@ -15,7 +15,7 @@ use Rattle.pyramid.specs.Definitions.Pyramid.{reduced, expanded}
 use Rattle.pyramid.specs.Definitions.Bound.{magnified}
 use Rattle.pyramid.specs.Definitions.Buffers.{raster, level_raster, start, read_levels}
 use Rattle.pyramid.specs.Definitions.Refusals.{limit}
-use Rattle.pyramid.specs.Inner.Rows.{as_level, Small, Source, halved_nodes, Reducible}
+use Rattle.pyramid.specs.Inner.Rows.{as_level, Small, halved_nodes, Reducible}
 use Rattle.pyramid.specs.Inner.Ranges.{EachNode}
 use Rattle.pyramid.specs.Inner.Layers.{LevelSmall}
 use Rattle.pyramid.proofs.Sizes.{last-suc, last_most, last_least, last_even}
@@ -62,6 +62,13 @@ module _ (s : Settings) (law : Lawful s) (l : ℕ) (h : l < s.depth) where
         (last_least law.shaped.across (suc l) h) (last_least law.shaped.along (suc l) h) i j (omega (arith, last-suc s.columns l)) (omega (arith, last-suc s.rows l))
 
 -- ---- a level of a buffer
+
+-- a buffer that holds a level of so many columns and rows, whose values lie within e of 0
+pub record Source (e columns rows : ℕ) (buffer : List ℤ) : Type 0 where
+  pub wide : (2 ≤ columns) × (columns ≤ 129)
+  pub high : (2 ≤ rows) × (rows ≤ 129)
+  pub filled : length buffer ≡ rows * columns
+  pub small : Small e buffer
 
 module _ (s : Settings) (law : Lawful s) (buffer : List ℤ) (long : total s ≤ length buffer) where
   -- a part of the buffer, read as a level
@@ -121,12 +128,10 @@ module _ (s : Settings) (law : Lawful s) (buffer : List ℤ) (long : total s ≤
   -- ---- EXPAND of the level above l
 
   module _ (l : ℕ) (h : suc l ≤ s.depth) where
-    pub expandable : (e : ℕ) → LevelSmall s (suc l) e buffer → Source 2 e (columns_at s (suc l)) (rows_at s (suc l)) (part (start s (suc l)) (start s (suc l) + nodes_at s (suc l)) buffer)
+    pub expandable : (e : ℕ) → LevelSmall s (suc l) e buffer → Source e (columns_at s (suc l)) (rows_at s (suc l)) (part (start s (suc l)) (start s (suc l) + nodes_at s (suc l)) buffer)
     expandable e f = record {
-      wide = omega (arith, last_least law.shaped.across (suc l) h);
-      high = omega (arith, last_least law.shaped.along (suc l) h);
-      wide_most = omega (arith, last_most s.columns (suc l), law.shaped.across.most);
-      high_most = omega (arith, last_most s.rows (suc l), law.shaped.along.most);
+      wide = (omega (arith, last_least law.shaped.across (suc l) h), omega (arith, last_most s.columns (suc l), law.shaped.across.most));
+      high = (omega (arith, last_least law.shaped.along (suc l) h), omega (arith, last_most s.rows (suc l), law.shaped.along.most));
       filled = length_level s buffer (suc l) h long;
       small = part_small (suc l) e h f;
     }

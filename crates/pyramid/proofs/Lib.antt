@@ -17,7 +17,9 @@ pub mod SettingsTests
 pub mod BoundSlots
 pub mod WorkedPieces
 pub mod TapSums
+pub mod KernelWeights
 pub mod ColumnSums
+pub mod LentParts
 pub mod Rendering
 pub mod SmallBuffers
 pub mod ReduceRows

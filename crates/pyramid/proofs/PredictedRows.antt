@@ -3,15 +3,13 @@
 use mathlib.Core.Path.{◌≡◌, refl, ap, ◌∙◌}
 use mathlib.Core.List.{List}
 use Prim.Native.Nat.{ℕ, zero, suc, ◌+◌, ◌-◌, ◌*◌, ◌≤◌, ◌<◌}
-use native.Mathlib.Nat.{le_trans, suc-mul}
-use native.Mathlib.Numerals.{add-one}
+use native.Mathlib.Nat.{le_trans}
 use native.Mathlib.Omega.{arith}
 use lib.IntN.{ℤ, pos, nat_abs}
-use lib.ListN.{length, get_or, replicate, length-replicate}
-use Rattle.mathematics.specs.Inner.Splices.{splice, part}
+use lib.ListN.{length, get_or}
+use Rattle.mathematics.specs.Inner.Splices.{part}
 use Rattle.mathematics.specs.Definitions.Tables.{tabulate}
-use Rattle.mathematics.proofs.Tables.{length-tabulate}
-use Rattle.mathematics.proofs.Splices.{part_long, length-splice, get_or-part}
+use Rattle.mathematics.proofs.Splices.{part_long, get_or-part}
 use Rattle.mathematics.proofs.Distance.{near_zero, abs_near}
 use Rattle.pyramid.specs.declared.Settings.{Settings}
 use Rattle.pyramid.specs.Inner.Lawful.{Lawful}
@@ -20,12 +18,11 @@ use Rattle.pyramid.specs.Definitions.Buffers.{start, read_levels}
 use Rattle.pyramid.specs.Inner.Ranges.{EachNode}
 use Rattle.pyramid.specs.Inner.Rows.{Within, Small}
 use Rattle.pyramid.specs.Inner.Layers.{predicted}
-use Rattle.pyramid.proofs.Sizes.{last_most}
 use Rattle.pyramid.proofs.Ranges.{near_constant}
 use Rattle.pyramid.proofs.Buffers.{row_inside}
 use Rattle.pyramid.proofs.LevelParts.{level_inside}
 use Rattle.pyramid.proofs.LevelSteps.{expanded-same}
-use Rattle.pyramid.proofs.SmallBuffers.{small-splice, small-tabulate, small_zeros}
+use Rattle.pyramid.proofs.SmallBuffers.{small-tabulate}
 
 module _ (s : Settings) (law : Lawful s) where
   same_from : (d l : ℕ) → l + d ≡ s.depth → (g h : ℕ → Level) → (suc l ≤ s.depth → EachNode s (suc l) (λ i j. g (suc l) i j ≡ h (suc l) i j))
@@ -50,32 +47,14 @@ module _ (s : Settings) (law : Lawful s) where
         → EachNode s l (λ i j. predicted s (s.depth - l) l g i j ≡ predicted s (s.depth - l) l h i j)
     predicted-same = same_from (s.depth - l) l (omega arith)
 
-    pub predicted-small : (g : ℕ → Level) → (suc l ≤ s.depth → EachNode s (suc l) (λ i j. nat_abs (g (suc l) i j) ≤ 524288))
+    predicted-small : (g : ℕ → Level) → (suc l ≤ s.depth → EachNode s (suc l) (λ i j. nat_abs (g (suc l) i j) ≤ 524288))
         → EachNode s l (λ i j. Within 8388608 (predicted s (s.depth - l) l g i j))
     predicted-small = small_from (s.depth - l) l (omega arith)
 
--- ---- a row for predictions: room for the widest level, and nothing large in it
-
-pub record Roomy (row : List ℤ) : Type 0 where
-  pub long : length row ≡ 129
-  pub small : Small 8388608 row
-
-pub roomy_zeros : Roomy (replicate 129 (pos 0))
-roomy_zeros = record { long = length-replicate 129 (pos 0); small = small_zeros 129 }
-
-module _ (s : Settings) (law : Lawful s) (l : ℕ) where
-  pub roomy_columns : {row : List ℤ} → Roomy row → columns_at s l ≤ length row
-  roomy_columns r = omega (arith, r.long, last_most s.columns l, law.shaped.across.most)
-
-  pub roomy_predicted : (deep : l ≤ s.depth) (g : ℕ → Level) → (suc l ≤ s.depth → EachNode s (suc l) (λ i j. nat_abs (g (suc l) i j) ≤ 524288))
-      → (j : ℕ) → j < rows_at s l → {row : List ℤ} → Roomy row → Roomy (splice 0 (tabulate (columns_at s l) (λ i. predicted s (s.depth - l) l g i j)) row)
-  roomy_predicted deep g small j turn {row} r = record {
-    long = length-splice 0 (tabulate (columns_at s l) f) row (rw (length-tabulate (columns_at s l) f) (omega (arith, roomy_columns r))) ∙ r.long;
-    small = small-splice 0 (tabulate (columns_at s l) f) row (small-tabulate (columns_at s l) f (λ i hi. predicted-small s law l deep g small i j hi turn)) r.small;
-  }
-    where
-      f : ℕ → ℤ
-      f i = predicted s (s.depth - l) l g i j
+    -- a row of it
+    pub row_small : (g : ℕ → Level) → (suc l ≤ s.depth → EachNode s (suc l) (λ i j. nat_abs (g (suc l) i j) ≤ 524288)) → (j : ℕ) → j < rows_at s l
+        → {made : List ℤ} → made ≡ tabulate (columns_at s l) (λ i. predicted s (s.depth - l) l g i j) → Small 8388608 made
+    row_small g small j turn is = rw is (small-tabulate (columns_at s l) _ (λ i hi. predicted-small g small i j hi turn))
 
 -- ---- row j of level l, in a buffer of all levels
 
@@ -84,9 +63,6 @@ row_of s l j buffer = part (start s l + j * columns_at s l) (start s l + j * col
 
 module _ (s : Settings) (l j : ℕ) where
   -- a start and columns that the code was given
-  pub next_place : {at columns : ℕ} → at ≡ start s l + j * columns_at s l → columns ≡ columns_at s l → at + columns ≡ start s l + (j + 1) * columns_at s l
-  next_place place across = omega (arith, suc-mul j (columns_at s l), ap (λ (n : ℕ). n * columns_at s l) (add-one j))
-
   pub given_row : {at columns : ℕ} → at ≡ start s l + j * columns_at s l → columns ≡ columns_at s l → (buffer : List ℤ) → part at (at + columns) buffer ≡ row_of s l j buffer
   given_row place across buffer = rw (place, across)
 

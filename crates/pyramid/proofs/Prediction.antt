@@ -1,14 +1,12 @@
 -- What a level is predicted to be: 0 at the top, below it EXPAND of the level above; row by row as the code makes it. Assumes nothing.
-use mathlib.Core.Path.{◌≡◌, sym, ap, ◌∙◌}
-use mathlib.Core.List.{List, ◌++◌}
+use mathlib.Core.Path.{◌≡◌, sym, ◌∙◌}
+use mathlib.Core.List.{List}
 use Prim.Native.Nat.{ℕ, suc, ◌+◌, ◌-◌, ◌*◌, ◌≤◌, ◌<◌}
-use native.Mathlib.Nat.{zero-add}
 use native.Mathlib.Omega.{arith}
 use lib.IntN.{ℤ, pos}
-use lib.ListN.{length, take, drop, replicate, length-replicate}
-use lib.Seq.{length-take-le}
+use lib.ListN.{length, replicate}
 use Rattle.mathematics.specs.Definitions.Tables.{tabulate}
-use Rattle.mathematics.specs.Inner.Splices.{splice, part}
+use Rattle.mathematics.specs.Inner.Splices.{part}
 use Rattle.mathematics.proofs.Tables.{tabulate-same, tabulate_constant}
 use Rattle.pyramid.specs.declared.Settings.{Settings}
 use Rattle.pyramid.specs.Inner.Lawful.{Lawful}
@@ -16,10 +14,10 @@ use Rattle.pyramid.specs.Definitions.Sizes.{Level, columns_at, rows_at, nodes_at
 use Rattle.pyramid.specs.Definitions.Steps.{expand}
 use Rattle.pyramid.specs.Definitions.Pyramid.{expanded}
 use Rattle.pyramid.specs.Definitions.Buffers.{start, read_levels}
-use Rattle.pyramid.specs.Inner.Rows.{as_level, Source}
+use Rattle.pyramid.specs.Inner.Rows.{as_level}
 use Rattle.pyramid.specs.Inner.Layers.{predicted, LevelSmall}
 use Rattle.pyramid.proofs.Sizes.{last_most}
-use Rattle.pyramid.proofs.LevelSteps.{expandable, twice_wide, twice_high, expand_read}
+use Rattle.pyramid.proofs.LevelSteps.{Source, expandable, twice_wide, twice_high, expand_read}
 
 module _ (s : Settings) (l : ℕ) (g : ℕ → Level) where
   pub predicted_top : s.depth ≤ l → (i j : ℕ) → predicted s (s.depth - l) l g i j ≡ pos 0
@@ -30,34 +28,28 @@ module _ (s : Settings) (l : ℕ) (g : ℕ → Level) where
   unfolding predicted
   predicted-below h i j = let e : s.depth - l ≡ suc (s.depth - suc l) = omega arith in rw e
 
--- zeros written over the first n values of a row
-pub zeros_written : (n : ℕ) (row : List ℤ) → n ≤ length row → replicate (length (take n row)) (pos 0) ++ drop n row ≡ splice 0 (tabulate n (λ i. pos 0)) row
-unfolding splice
-zeros_written n row h = let t : length (take n row) ≡ n = length-take-le n row h in rw (t, tabulate_constant n (pos 0), length-replicate n (pos 0), zero-add)
-
-module _ (s : Settings) (l j : ℕ) (work row : List ℤ) where
+module _ (s : Settings) (l j : ℕ) (work : List ℤ) where
   abbrev made : List ℤ
-  made = splice 0 (tabulate (columns_at s l) (λ i. predicted s (s.depth - l) l (read_levels s work) i j)) row
+  made = tabulate (columns_at s l) (λ i. predicted s (s.depth - l) l (read_levels s work) i j)
 
-  pub top_row : s.depth ≤ l → splice 0 (tabulate (columns_at s l) (λ i. pos 0)) row ≡ made
-  top_row h = ap (λ (xs : List ℤ). splice 0 xs row) (tabulate-same (columns_at s l) _ _ (λ i hi. sym (predicted_top s l (read_levels s work) h i j)))
+  -- a row of zeros
+  pub top_row : s.depth ≤ l → (n : ℕ) → n ≡ columns_at s l → replicate n (pos 0) ≡ made
+  top_row h n e =
+      rw e
+      (sym (tabulate_constant (columns_at s l) (pos 0)) ∙ tabulate-same (columns_at s l) _ _ (λ i hi. sym (predicted_top s l (read_levels s work) h i j)))
 
-  -- of a start, an end, rows and columns that the code was given for the level above
-  pub below_row : Lawful s → total s ≤ length work → l < s.depth → j < rows_at s l
-      → {at to rows columns : ℕ} → at ≡ start s (suc l) → to ≡ start s (suc l) + nodes_at s (suc l) → rows ≡ rows_at s (suc l) → columns ≡ columns_at s (suc l)
-      → splice 0 (tabulate (2 * (columns - 1) + 1) (λ i. expand s.kernel (columns - 1) (rows - 1) (as_level columns (part at to work)) i j)) row ≡ made
-  below_row law long h hj place end along across =
-      rw (place, end, along, across, twice_wide s law work long l h)
-      (ap (λ (xs : List ℤ). splice 0 xs row)
-      (tabulate-same (columns_at s l) _ _ (λ i hi. expand_read s law work long l h i j hi hj ∙ sym (predicted-below s l (read_levels s work) h i j))))
-
--- what `expand_row` asks, of such numbers
+-- of a start, an end, rows and columns that the code was given for the level above
 module _ (s : Settings) (l j : ℕ) (work : List ℤ) (law : Lawful s) (long : total s ≤ length work) (h : l < s.depth)
     {at to rows columns : ℕ} (place : at ≡ start s (suc l)) (end : to ≡ start s (suc l) + nodes_at s (suc l)) (along : rows ≡ rows_at s (suc l)) (across : columns ≡ columns_at s (suc l)) where
-  pub below-source : (e : ℕ) → LevelSmall s (suc l) e work → Source 2 e columns rows (part at to work)
+  pub below_row : j < rows_at s l → tabulate (2 * (columns - 1) + 1) (λ i. expand s.kernel (columns - 1) (rows - 1) (as_level columns (part at to work)) i j) ≡ made s l j work
+  below_row hj =
+      rw (place, end, along, across, twice_wide s law work long l h)
+      (tabulate-same (columns_at s l) _ _ (λ i hi. expand_read s law work long l h i j hi hj ∙ sym (predicted-below s l (read_levels s work) h i j)))
+
+  pub below-source : (e : ℕ) → LevelSmall s (suc l) e work → Source e columns rows (part at to work)
   below-source e f = rw (place, end, along, across) (expandable s law work long l h e f)
 
-  pub below_sizes : (n : ℕ) → j < rows_at s l → columns_at s l ≤ n → (j ≤ 2 * (rows - 1)) × (2 * (columns - 1) + 1 ≤ n) × (columns ≤ 65)
+  pub below_sizes : (n : ℕ) → j < rows_at s l → n ≡ columns_at s l → (j ≤ 2 * (rows - 1)) × (n ≡ 2 * (columns - 1) + 1) × (columns ≤ 65)
   below_sizes n hj hn =
-      rw (along, across)
+      rw (along, across, hn)
       (omega (arith, twice_wide s law work long l h, twice_high s law work long l h, last_most s.columns l, law.shaped.across.most))

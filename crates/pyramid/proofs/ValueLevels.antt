@@ -7,9 +7,8 @@ use lib.IntN.{ℤ, pos, ◌+ℤ◌, ◌*ℤ◌, +ℤ_idr}
 use lib.ListN.{length, get_or}
 use Rattle.mathematics.specs.Inner.Splices.{splice}
 use Rattle.mathematics.specs.Definitions.Tables.{tabulate}
-use Rattle.mathematics.proofs.Tables.{tabulate-same}
+use Rattle.mathematics.proofs.Tables.{tabulate-same, get_or-tabulate}
 use Rattle.mathematics.proofs.Splices.{get_or-part}
-use Rattle.mathematics.proofs.Filling.{get_or_written}
 use Rattle.pyramid.specs.declared.Settings.{Settings}
 use Rattle.pyramid.specs.Definitions.Settings.{bin}
 use Rattle.pyramid.specs.Inner.Lawful.{Lawful}
@@ -62,17 +61,17 @@ module _ {s : Settings} {l : ℕ} {levels w : List ℤ} (v : ValueLevel s l leve
     above_small = record { small = λ h x y hx hy. rw (above_kept h x y hx hy) (v.above.small h x y hx hy) }
 
     -- the next row, from its indices and its prediction
-    pub values_next : (law : Lawful s) → j < rows_at s l → {at : ℕ} {indices made work' : List ℤ} (row : List ℤ) → at ≡ start s l + j * columns_at s l → indices ≡ row_of s l j levels
-        → made ≡ splice 0 (tabulate (columns_at s l) (λ i. predicted s (s.depth - l) l (read_levels s work) i j)) row
-        → work' ≡ splice at (tabulate (length indices) (λ i. get_or indices i (pos 0) *ℤ pos (bin s l) +ℤ get_or made i (pos 0))) work → Values s l levels w work' (j + 1)
+    pub values_next : (law : Lawful s) → j < rows_at s l → {at n : ℕ} {indices made work' : List ℤ} → at ≡ start s l + j * columns_at s l → indices ≡ row_of s l j levels
+        → made ≡ tabulate (columns_at s l) (λ i. predicted s (s.depth - l) l (read_levels s work) i j)
+        → n ≡ columns_at s l → work' ≡ splice at (tabulate n (λ i. get_or indices i (pos 0) *ℤ pos (bin s l) +ℤ get_or made i (pos 0))) work → Values s l levels w work' (j + 1)
     unfolding value_at value_of
-    values_next law turn row place e f is =
+    values_next law turn place e f width is =
         rendering_next r room
-        (is ∙ rw (place, e, f, length_indices turn)
+        (is ∙ rw (place, e, f, width)
         (ap (λ (xs : List ℤ). splice (start s l + j * columns_at s l) xs work)
         (tabulate-same (columns_at s l) _ _ (λ i hi. rw (
           index_node turn i hi,
-          get_or_written (columns_at s l) (λ i. predicted s (s.depth - l) l (read_levels s work) i j) row (pos 0) i hi,
+          get_or-tabulate (columns_at s l) (λ i. predicted s (s.depth - l) l (read_levels s work) i j) (pos 0) i hi,
           predicted-same s law l v.deep (read_levels s work) (read_levels s w) above_kept i j hi turn,
         )))))
         turn

@@ -31,37 +31,33 @@ pub fn clamp_all(s: Settings, src: &[i32], picture: &mut [u8])
 }
 
 // The indices of a row: of its averages less what is predicted for them.
-pub fn index_row(averages: &[i32], predicted: &[i32], bin: u16, levels: &mut [i16], at: usize)
-    requires averages_in_bounds { (length averages.now ≤ length predicted.now)
-        × (at + length averages.now ≤ length levels.old) }
+pub fn index_row(averages: &[i32], predicted: &[i32], bin: u16, indices: &mut [i16])
+    requires lengths { (length averages.now ≡ length indices.old) × (length predicted.now ≡ length indices.old) }
     requires small { Small 8388608 averages.now }
     requires small_2 { Small 8388608 predicted.now }
     requires indices_within { IndicesWithin averages.now predicted.now bin }
-    ensures { levels.new ≡
-        splice at (tabulate (length averages.now)
-        (λ i. bin_index (get_or averages.now i (pos 0) -ℤ get_or predicted.now i (pos 0)) bin))
-        levels.old }
+    ensures { indices.new ≡
+        tabulate (length indices.old)
+        (λ i. bin_index (get_or averages.now i (pos 0) -ℤ get_or predicted.now i (pos 0)) bin) }
 {
     let rule = quantizer::Bin::new(bin);
-    for (i, &average) in averages.iter().enumerate() {
-        levels[at + i] = rule.index(average - predicted[i]) as i16;
+    for (i, index) in indices.iter_mut().enumerate() {
+        *index = rule.index(averages[i] - predicted[i]) as i16;
     }
 }
 
 // The rebuilt values of a row: its indices' values plus what is predicted for them.
-pub fn value_row(indices: &[i16], predicted: &[i32], bin: u16, work: &mut [i32], at: usize)
-    requires indices_in_bounds { (length indices.now ≤ length predicted.now)
-        × (at + length indices.now ≤ length work.old) }
+pub fn value_row(indices: &[i16], predicted: &[i32], bin: u16, values: &mut [i32])
+    requires lengths { (length indices.now ≡ length values.old) × (length predicted.now ≡ length values.old) }
     requires small { Small 8388608 predicted.now }
     requires values_within { ValuesWithin indices.now bin }
-    ensures { work.new ≡
-        splice at (tabulate (length indices.now)
-        (λ i. get_or indices.now i (pos 0) *ℤ pos bin +ℤ get_or predicted.now i (pos 0)))
-        work.old }
+    ensures { values.new ≡
+        tabulate (length values.old)
+        (λ i. get_or indices.now i (pos 0) *ℤ pos bin +ℤ get_or predicted.now i (pos 0)) }
 {
     let n = i32::from(bin);
-    for (i, &index) in indices.iter().enumerate() {
-        work[at + i] = i32::from(index) * n + predicted[i];
+    for (i, value) in values.iter_mut().enumerate() {
+        *value = i32::from(indices[i]) * n + predicted[i];
     }
 }
 

@@ -11,6 +11,8 @@ ghost use Rattle.pyramid.specs.Definitions.Refusals.{limit, values_ok};
 ghost use Rattle.pyramid.specs.Inner.Ranges.{CodingRanges, RebuildingRanges};
 ghost use Rattle.pyramid.specs.Inner.Layers.{predicted, index_at, value_at, LevelSmall, IndexLevel, Holds, ValueLevel};
 
+use crate::rasters::Raster;
+use crate::taps::Weights;
 use crate::{LawfulSettings, averaging, copying, expanding};
 
 // The averages of the level above l, from those of level l.
@@ -24,7 +26,13 @@ fn average_level(s: LawfulSettings, l: u16, work: &mut [i32])
     let from = s.shape.start_of(l);
     let columns = s.shape.columns_at(l);
     let rows = s.shape.rows_at(l);
-    averaging::reduce_level(work, from, columns, rows, s.shape.settings.kernel);
+    averaging::reduce_level(
+        work,
+        from,
+        columns,
+        rows,
+        Weights::new(s.shape.settings.kernel),
+    );
 }
 
 // The averages of all levels, from the picture at its place.
@@ -42,26 +50,22 @@ pub fn average_levels(s: LawfulSettings, work: &mut [i32])
 // What row j of level l, which starts at `from`, is predicted to be: EXPAND of the level above it, or 0 at the top.
 fn predict_row(s: LawfulSettings, l: u16, from: usize, j: usize, work: &[i32], row: &mut [i32])
     requires l_le_depth { (l ≤ s.shape.settings.depth) × (j < rows_at s.shape.settings l) × (total s.shape.settings ≤ length work.now)
-        × (columns_at s.shape.settings l ≤ length row.old) × (from ≡ start s.shape.settings l) }
+        × (length row.old ≡ columns_at s.shape.settings l) × (from ≡ start s.shape.settings l) }
     requires level_small { LevelSmall s.shape.settings (suc l) 524288 work.now }
     ensures { row.new ≡
-        splice 0 (tabulate (columns_at s.shape.settings l)
-        (λ i. predicted s.shape.settings (s.shape.settings.depth - l) l (read_levels s.shape.settings work.now) i j)) row.old }
+        tabulate (columns_at s.shape.settings l) (λ i. predicted s.shape.settings (s.shape.settings.depth - l) l (read_levels s.shape.settings work.now) i j) }
 {
     if l == s.shape.settings.depth {
-        row[..s.shape.columns_at(l)].fill(0);
+        row.fill(0);
     } else {
         let columns = s.shape.columns_at(l + 1);
         let rows = s.shape.rows_at(l + 1);
-        let above = from - rows * columns;
-        expanding::expand_row(
-            &work[above..from],
+        let above = Raster {
+            values: &work[from - rows * columns..from],
             columns,
             rows,
-            j,
-            s.shape.settings.kernel,
-            row,
-        );
+        };
+        expanding::expand_row(above, j, Weights::new(s.shape.settings.kernel), row);
     }
 }
 
@@ -76,12 +80,13 @@ fn index_level(s: LawfulSettings, l: u16, work: &[i32], levels: &mut [i16])
     let columns = s.shape.columns_at(l);
     let rows = s.shape.rows_at(l);
     let mut row: [i32; 129] = [0; 129];
+    let row = &mut row[..columns];
     let from = s.shape.start_of(l);
     for j in 0..rows {
-        predict_row(s, l, from, j, work, &mut row);
+        predict_row(s, l, from, j, work, row);
         let at = from + j * columns;
         let to = at + columns;
-        copying::index_row(&work[at..to], &row, bin, levels, at);
+        copying::index_row(&work[at..to], row, bin, &mut levels[at..to]);
     }
 }
 
@@ -107,12 +112,13 @@ fn value_level(s: LawfulSettings, l: u16, levels: &[i16], work: &mut [i32])
     let columns = s.shape.columns_at(l);
     let rows = s.shape.rows_at(l);
     let mut row: [i32; 129] = [0; 129];
+    let row = &mut row[..columns];
     let from = s.shape.start_of(l);
     for j in 0..rows {
-        predict_row(s, l, from, j, work, &mut row);
+        predict_row(s, l, from, j, work, row);
         let at = from + j * columns;
         let to = at + columns;
-        copying::value_row(&levels[at..to], &row, bin, work, at);
+        copying::value_row(&levels[at..to], row, bin, &mut work[at..to]);
     }
 }
 

@@ -22,6 +22,7 @@ mod counting;
 mod expanding;
 mod layering;
 mod ranging;
+mod rasters;
 mod shapes;
 mod taps;
 

@@ -1,13 +1,16 @@
 -- `bale::check_file` meets its contract: a refusal, or what the file says of its bale. Assumes nothing.
-use mathlib.Core.Path.{sym, ap, ◌∙◌}
-use Rattle.bale.specs.Definitions.Calls.{bale_of, check_file}
-use Rattle.bale.proofs.Answers.{refused_bale}
+use mathlib.Core.Path.{sym, ◌∙◌}
+use Rattle.refusals.proofs.Outcomes.{none, value-is, passed_on}
+use Rattle.pyramid.proofs.Refusals.{first_stop}
+use Rattle.bale.specs.Definitions.Calls.{check_refusal, bale_of, check_file}
+use Rattle.bale.proofs.Answers.{checked}
 use Rattle.bale.proofs.check_file.Goals as goal
 
-pub returns-then-refusal-ne0 : goal.returns-then-refusal-ne0
-unfolding check_file
-returns-then-refusal-ne0 c = let refusal = c.before in c.refused.ensures ∙ refused_bale _ refusal.if-refusal-ne0.true ∙ ap (bale_of _) refusal.check_refusal-refusal.ensures
+pub returns-in_err-shaped : goal.returns-in_err-shaped
+unfolding check_file bale_of check_refusal
+returns-in_err-shaped c = passed_on _ _ _ c.from_residual.result _ c.from_residual.ensures.1 c.in_err-shaped.ensures (first_stop _ _)
 
 pub returns : goal.returns
-unfolding check_file
-returns c = let none = c.before in c.accepted.ensures ∙ ap (bale_of _) (sym none.if-refusal-ne0.false ∙ none.check_refusal-refusal.ensures)
+returns c =
+    let shaped = sym c.in_ok-shaped.ensures in
+    (rw (value-is _ _ shaped) at c.bale.ensures) ∙ checked _ (none _ _ shaped)

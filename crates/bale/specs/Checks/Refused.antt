@@ -6,9 +6,8 @@ use Rattle.pyramid.specs.Checks.Refused.{Refused}
 use Rattle.bale.specs.declared.Reading.{Reading}
 use Rattle.bale.specs.declared.Reading.TheVariants.{NotFitted}
 use Rattle.bale.specs.declared.Note.{Note}
-use Rattle.bale.specs.declared.Bale.{Bale}
 use Rattle.bale.specs.Definitions.Readings.{code_of, decode}
-use Rattle.bale.specs.Definitions.Calls.{size_answer, write_file, check_file, read_file}
+use Rattle.bale.specs.Definitions.Calls.{BaleAnswer as Bale, size_answer, write_file, check_file, read_file}
 
 pub record HoldsNothing (bale : Bale) : Type 0 where
   pub numbers : bale.settings ≡ record { columns = 0; rows = 0; depth = 0; kernel = 0; bins = replicate 7 0 }

@@ -7,21 +7,33 @@ use Rattle.pyramid.specs.Definitions.Refusals.{unless, first, settings_refusal, 
 use Rattle.pyramid.specs.Definitions.Calls.{leaves}
 use Rattle.bale.specs.declared.Note.{Note}
 use Rattle.bale.specs.declared.Reading.TheVariants.{NotFitted}
-use Rattle.bale.specs.declared.FileSize.{FileSize}
 use Rattle.bale.specs.declared.Bale.{Bale}
 use Rattle.bale.specs.Definitions.Readings.{note_ok}
 use Rattle.bale.specs.Definitions.Files.{file_of, file_length}
 use Rattle.bale.specs.Definitions.Reader.{depth_in, settings_in, note_in, levels_in, shape_section_refusal, body_refusal}
 
+-- what a call answers: a refusal's number, and values, which are 0 and not fitted where it is not 0
+pub record SizeAnswer : Type 0 where
+  pub refusal : ℕ
+  pub size : ℕ
+
+pub record BaleAnswer : Type 0 where
+  pub refusal : ℕ
+  pub settings : Settings
+  pub note : Note
+
+abbrev pub bale_in : BaleAnswer → Bale
+bale_in answer = record { settings = answer.settings; note = answer.note }
+
 -- ---- the writer
 
 pub record WriteOutcome : Type 0 where
-  pub answer : FileSize
+  pub answer : SizeAnswer
   pub file : List ℕ
 
 module _ (s : Settings) where
   -- the size of a file of settings, whose numbers are looked for
-  unfoldable pub size_answer : FileSize
+  unfoldable pub size_answer : SizeAnswer
   size_answer = record { refusal = settings_refusal s; size = leaves (settings_refusal s) (file_length s) 0 }
 
   -- the writer looks for the settings' numbers, then 4, 6, 8, 11
@@ -53,7 +65,7 @@ unfoldable pub no_note : Note
 no_note = record { before_drier = NotFitted; at_press = NotFitted }
 
 pub record ReadOutcome : Type 0 where
-  pub answer : Bale
+  pub answer : BaleAnswer
   pub levels : List ℤ
 
 module _ (bytes : List ℕ) where
@@ -65,7 +77,7 @@ module _ (bytes : List ℕ) where
   unfoldable pub check_refusal : ℕ
   check_refusal = first (shape_section_refusal bytes ∷ body_refusal bytes ∷ [])
 
-  unfoldable pub bale_of : ℕ → Bale
+  unfoldable pub bale_of : ℕ → BaleAnswer
   bale_of refusal =
       record {
         refusal = refusal;
@@ -73,7 +85,7 @@ module _ (bytes : List ℕ) where
         note = leaves refusal (note_in bytes (depth_in bytes)) no_note;
       }
 
-  unfoldable pub check_file : Bale
+  unfoldable pub check_file : BaleAnswer
   check_file = bale_of check_refusal
 
   unfoldable pub read_file : List ℤ → ReadOutcome

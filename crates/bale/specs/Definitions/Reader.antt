@@ -8,9 +8,8 @@ use Rattle.pyramid.specs.Definitions.Settings.{bin, bins_ok}
 use Rattle.pyramid.specs.Definitions.Sizes.{nodes_at}
 use Rattle.pyramid.specs.Definitions.Refusals.{unless, first, shape_refusal, index_ok}
 use Rattle.bale.specs.declared.Note.{Note}
-use Rattle.bale.specs.declared.Probe.{Probe}
 use Rattle.bale.specs.Definitions.Words.{u16_at, u32_at, indices_at}
-use Rattle.bale.specs.Definitions.Readings.{decode}
+use Rattle.bale.specs.Definitions.Readings.{ReadingAnswer, decode}
 use Rattle.bale.specs.Definitions.Sections.{items_at, end_of, section_refusal}
 
 -- ---- where the sections start, each where the one before it ends; N is the depth
@@ -61,7 +60,7 @@ module _ (bytes : List ℕ) where
         bins = tabulate 7 (slot_in depth_in);
       }
 
-  unfoldable pub probe_at : ℕ → Probe
+  unfoldable pub probe_at : ℕ → ReadingAnswer
   probe_at at = decode (get_or bytes at 0) (u32_at bytes (at + 1))
 
   unfoldable pub note_in : ℕ → Note

@@ -8,7 +8,6 @@ use Rattle.pyramid.specs.Definitions.Calls.{leaves}
 use Rattle.bale.specs.declared.Reading.{Reading}
 use Rattle.bale.specs.declared.Reading.TheVariants.{NotFitted, Percentage, Fault}
 use Rattle.bale.specs.declared.Note.{Note}
-use Rattle.bale.specs.declared.Probe.{Probe}
 use Rattle.bale.specs.declared.Code.{Code}
 use Rattle.bale.specs.Definitions.Words.{le32}
 
@@ -26,16 +25,29 @@ HeldReading NotFitted = Unit {0}
 HeldReading (Percentage x) = T (fits binary32 x)
 HeldReading (Fault code) = code < 2 * 0x8000_0000
 
+-- what a call answers: refusal 4 or 0, and values, which are 0 and not fitted where it is 4
+pub record CodeAnswer : Type 0 where
+  pub refusal : ℕ
+  pub kind : ℕ
+  pub number : ℕ
+
+pub record ReadingAnswer : Type 0 where
+  pub refusal : ℕ
+  pub reading : Reading
+
+abbrev pub code_in : CodeAnswer → Code
+code_in answer = record { kind = answer.kind; number = answer.number }
+
 -- ---- as it is written
 
 -- a kind and a number where the rule holds, else 4 and zeros
-unfoldable pub code_where : Bool → ℕ → ℕ → Code
+unfoldable pub code_where : Bool → ℕ → ℕ → CodeAnswer
 code_where ok kind number =
     let refusal = unless ok 4 in
     record { refusal = refusal; kind = leaves refusal kind 0; number = leaves refusal number 0 }
 
 -- the kind and the number of a reading: not fitted is four zero bytes, and a percentage's bits are kept unchanged
-unfoldable pub code_of : Reading → Code
+unfoldable pub code_of : Reading → CodeAnswer
 code_of NotFitted = code_where true 0 0
 code_of (Percentage x) = code_where (percentage_ok (to_bits binary32 x) x) 1 (to_bits binary32 x)
 code_of (Fault code) = code_where (fault_ok code) 2 code
@@ -54,13 +66,13 @@ note_ok note = reading_ok note.before_drier && reading_ok note.at_press
 -- ---- as it is read
 
 -- a reading where the rule holds, else 4 and not fitted
-unfoldable pub probe_where : Bool → Reading → Probe
+unfoldable pub probe_where : Bool → Reading → ReadingAnswer
 probe_where ok reading =
     let refusal = unless ok 4 in
     record { refusal = refusal; reading = leaves refusal reading NotFitted }
 
 -- the reading that a kind and a number stand for; no kind is above 2
-unfoldable pub decode : ℕ → ℕ → Probe
+unfoldable pub decode : ℕ → ℕ → ReadingAnswer
 decode zero n = probe_where (eqb n 0) NotFitted
 decode (suc zero) n = probe_where (percentage_ok n (of_bits binary32 n)) (Percentage (of_bits binary32 n))
 decode (suc (suc zero)) n = probe_where (fault_ok n) (Fault n)

@@ -4,12 +4,17 @@ use Rattle.std.specs.Prelude.{◌≡◌, List, ℕ, ◌+◌, ◌-◌, ◌*◌, �
 use Rattle.mathematics.specs.Definitions.Sums.{sum}
 use Rattle.mathematics.specs.Inner.Splices.{part}
 use Rattle.quantizer.specs.Definitions.Bins.{bin_index}
+use Rattle.pyramid.specs.Definitions.Edge.{reflect}
 use Rattle.pyramid.specs.Definitions.Sizes.{Level}
 use Rattle.pyramid.specs.Definitions.Refusals.{limit}
 
 -- a buffer of rows of so many columns, read as a level
 unfoldable pub as_level : ℕ → List ℤ → Level
 as_level columns buffer i j = get_or buffer (j * columns + i) (pos 0)
+
+-- the row that place p stands for, of a buffer of so many columns and rows
+abbrev pub row_at : (columns rows p : ℕ) → List ℤ → List ℤ
+row_at columns rows p buffer = part (reflect (rows - 1) p * columns) (reflect (rows - 1) p * columns + columns) buffer
 
 -- the part of a window that lies in one column, without that column's weight
 unfoldable pub column_sum : (ℕ → ℤ) → (ℕ → ℕ) → Level → ℕ → ℤ
@@ -22,15 +27,6 @@ pub record Within (e : ℕ) (x : ℤ) : Type 0 where
 -- so does every value of a buffer
 abbrev pub Small : ℕ → List ℤ → Type 0
 Small e buffer = (p : ℕ) → Within e (get_or buffer p (pos 0))
-
--- a buffer that holds a level of so many columns and rows, both from `least` to 129, whose values lie within e of 0
-pub record Source (least e columns rows : ℕ) (buffer : List ℤ) : Type 0 where
-  pub wide : least ≤ columns
-  pub high : least ≤ rows
-  pub wide_most : columns ≤ 129
-  pub high_most : rows ≤ 129
-  pub filled : length buffer ≡ rows * columns
-  pub small : Small e buffer
 
 -- the indices of the differences of two rows, and the values of a row's indices, lie within 4,096 of 0
 pub record IndicesWithin (averages predicted : List ℤ) (bin : ℕ) : Type 0 where

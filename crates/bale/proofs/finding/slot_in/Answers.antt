@@ -1,14 +1,13 @@
 -- `bale::finding::slot_in` meets its contract: by its definition. Assumes nothing.
 use mathlib.Core.Path.{◌∙◌}
-use native.Mathlib.Omega.{arith}
 use borrow.Author.Tests.{le-leb, lt-leb}
 use Rattle.bale.specs.Definitions.Reader.{slot_in}
 use Rattle.bale.proofs.finding.slot_in.Goals as goal
 
 pub returns-then-level-depth : goal.returns-then-level-depth
 unfolding slot_in
-returns-then-level-depth c = (c.u16_at.ensures.0 ∙ rw (le-leb _ _ c.if-level-depth.true), c.u16_at.ensures.1)
+returns-then-level-depth c = c.u16_at.ensures ∙ rw (le-leb _ _ c.if-level-depth.true)
 
 pub returns : goal.returns
 unfolding slot_in
-returns c = (rw (lt-leb _ _ c.if-level-depth.false), omega arith)
+returns c = rw (lt-leb _ _ c.if-level-depth.false)

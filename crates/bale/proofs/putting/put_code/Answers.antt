@@ -1,20 +1,6 @@
--- `bale::putting::put_code` meets its contract: five stores are one splice. Assumes nothing.
-use native.Mathlib.Omega.{arith}
-use lib.ListN.{length-set}
-use Rattle.bale.proofs.WordLaws.{five_stores}
+-- `bale::putting::put_code` meets its contract: the kind, then the number. Assumes nothing.
+use Rattle.bale.proofs.Pieces.{code_next}
 use Rattle.bale.proofs.putting.put_code.Goals as goal
 
-pub bounds-file-at-2 : goal.bounds-file-at-2
-bounds-file-at-2 c = simp length-set (omega arith)
-
-pub bounds-file-at-3 : goal.bounds-file-at-3
-bounds-file-at-3 c = simp length-set (omega arith)
-
-pub bounds-file-at-4 : goal.bounds-file-at-4
-bounds-file-at-4 c = simp length-set (omega arith)
-
-pub bounds-file-at-5 : goal.bounds-file-at-5
-bounds-file-at-5 c = simp length-set (omega arith)
-
 pub returns : goal.returns
-returns c = five_stores c.args.file.now c.args.at c.args.kind c.args.number (omega arith)
+returns c = code_next c.args.code.kind c.args.code.number c.args.at c.args.file.now c.requires c.put.ensures c.put_u32.ensures

@@ -4,7 +4,4 @@ use Rattle.bale.proofs.Pieces.{level_next}
 use Rattle.bale.proofs.putting.put_level.Goals as goal
 
 pub returns : goal.returns
-returns c =
-    let d = c.before.before.before.before in
-    let a = d.args in
-    level_next a.at a.file.now (omega arith) a.indices.now d.put_u16.ensures c.put_indices.ensures
+returns c = level_next c.args.at c.args.file.now (omega arith) c.args.indices.now c.put_u16.ensures c.put_indices.ensures

@@ -5,4 +5,4 @@ use Rattle.bale.proofs.words.u16_at.Goals as goal
 
 pub returns : goal.returns
 unfolding u16_at
-returns c = (omega arith, omega arith)
+returns c = omega arith

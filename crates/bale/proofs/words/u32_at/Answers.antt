@@ -1,4 +1,4 @@
--- `bale::words::u32_at` meets its contract: by the two halves. Assumes nothing.
+-- `bale::words::u32_at` meets its contract: by the four bytes. Assumes nothing.
 use native.Mathlib.Omega.{arith}
 use Rattle.bale.specs.Definitions.Words.{u32_at}
 use Rattle.bale.proofs.words.u32_at.Goals as goal

@@ -1,8 +1,5 @@
--- What the loop of `pyramid::averaging::reduce_along` keeps, and what falls with each turn.
-use mathlib.Core.List.{List}
-use Prim.Native.Nat.{ℕ, ◌+◌, ◌-◌, ◌*◌}
-use lib.IntN.{ℤ, pos, ◌*ℤ◌}
-use lib.ListN.{get_or}
+-- What the loop of `pyramid::averaging::reduce_along` keeps: the nodes before node i are written.
+use Rattle.std.proofs.Common.{List, ℕ, ◌+◌, ◌*◌, ◌/◌, ℤ, pos, ◌*ℤ◌, get_or}
 use Rattle.mathematics.specs.Definitions.Sums.{sum}
 use Rattle.mathematics.proofs.Filling.{Filling}
 use Rattle.quantizer.specs.Definitions.Rounding.{round_div}
@@ -15,7 +12,4 @@ abbrev pub node : ℕ → List ℤ → ℕ → ℕ → ℤ
 node k sums last i = round_div (sum 5 (λ t. weight k t *ℤ get_or sums (reflect last (2 * i + t)) (pos 0))) 400
 
 abbrev pub invariant-loop-i : goal.invariant-loop-i
-invariant-loop-i v = Filling v.inner v.n (λ i. node v.kernel v.sums v.last (1 + i)) v.initial.work v.work v.i
-
-abbrev pub decreases-loop-i : goal.decreases-loop-i
-decreases-loop-i v = v.n - v.i
+invariant-loop-i l = Filling 0 (l.last / 2 + 1) (node l.weights.kernel l.sums l.last) l.fn.row l.row l.i

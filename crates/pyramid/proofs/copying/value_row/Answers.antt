@@ -1,6 +1,7 @@
 -- `pyramid::copying::value_row` meets its contract: each turn of its loop stores one rebuilt value. Assumes nothing.
-use Rattle.std.proofs.Common.{arith, rules}
-use Rattle.mathematics.proofs.Filling.{filling_start, filling_next, filling_end}
+use Rattle.std.proofs.Common.{refl, arith, rules}
+use Rattle.mathematics.proofs.Filling.{filling_start, filling_next}
+use Rattle.pyramid.proofs.LentParts.{filled_whole}
 use Rattle.pyramid.proofs.Copies.{rebuilt_held}
 use Rattle.pyramid.proofs.copying.value_row.Goals as goal
 
@@ -15,4 +16,4 @@ loop-i-preserved c =
     (omega arith)
 
 pub returns : goal.returns
-returns c = filling_end c.loop-i.invariant c.loop-i-test.false
+returns c = filled_whole c.loop-i.invariant (omega arith) refl

@@ -1,6 +1,7 @@
 -- `pyramid::layering::index_level` meets its contract, row by row. Assumes nothing.
 use Rattle.std.proofs.Common.{◌≡◌, sym, ap, ◌∙◌, subst, List, ℕ, ◌+◌, ◌-◌, ◌*◌, ◌≤◌, ◌<◌, length, ℤ, arith}
-use Rattle.mathematics.specs.Inner.Splices.{splice, part}
+use Rattle.mathematics.specs.Inner.Splices.{part}
+use Rattle.mathematics.proofs.Splices.{part_long}
 use Rattle.mathematics.specs.Definitions.Tables.{tabulate}
 use Rattle.pyramid.specs.Definitions.Settings.{bin}
 use Rattle.pyramid.specs.Definitions.Sizes.{columns_at, rows_at, total}
@@ -9,7 +10,8 @@ use Rattle.pyramid.specs.Inner.Rows.{Small, IndicesWithin}
 use Rattle.pyramid.specs.Inner.Layers.{predicted}
 use Rattle.pyramid.proofs.Sizes.{total_most}
 use Rattle.pyramid.proofs.Rendering.{rendering_start, rendering_end}
-use Rattle.pyramid.proofs.PredictedRows.{Roomy, roomy_zeros, roomy_columns, roomy_predicted, row_of, given_row, row_room}
+use Rattle.pyramid.proofs.PredictedRows.{row_small, row_of, given_row, row_room}
+use Rattle.pyramid.proofs.LentParts.{lent_back}
 use Rattle.pyramid.proofs.IndexRows.{above_small, length_averages, averages_small, indices_within, index_row}
 use Rattle.pyramid.proofs.layering.index_level.Goals as goal
 use Rattle.pyramid.proofs.layering.index_level.Goals.{In-loop-j}
@@ -41,28 +43,27 @@ module _ (n : In-loop-j) where
   near : at + n.columns_at-columns.result ≤ 22359
   near = omega (arith, room, total_most n.args.s.shape.settings n.args.s.lawful.shaped)
 
+  -- the row that is written
+  written : length (part at (at + n.columns_at-columns.result) n.loop-j.levels) ≡ n.columns_at-columns.result
+  written = part_long at n.columns_at-columns.result n.loop-j.levels (omega (arith, room, n.requires.filled, n.loop-j.invariant.long))
+
   -- once the row is predicted
-  made_roomy : {made : List ℤ} → made ≡ splice 0 (tabulate (columns_at n.args.s.shape.settings n.args.l) (λ i. predicted n.args.s.shape.settings (n.args.s.shape.settings.depth - n.args.l) n.args.l (read_levels n.args.s.shape.settings n.args.work.now) i n.loop-j.j)) n.loop-j.row
-      → Roomy made
-  made_roomy e =
-      rw e
-      (roomy_predicted n.args.s.shape.settings n.args.s.lawful n.args.l n.requires.deep (read_levels n.args.s.shape.settings n.args.work.now) (above_small n.requires).small n.loop-j.j turn n.loop-j.invariant.roomy)
+  made_small : {made : List ℤ} → made ≡ tabulate (columns_at n.args.s.shape.settings n.args.l) (λ i. predicted n.args.s.shape.settings (n.args.s.shape.settings.depth - n.args.l) n.args.l (read_levels n.args.s.shape.settings n.args.work.now) i n.loop-j.j)
+      → Small 8388608 made
+  made_small = row_small n.args.s.shape.settings n.args.s.lawful n.args.l n.requires.deep (read_levels n.args.s.shape.settings n.args.work.now) (above_small n.requires).small n.loop-j.j turn
 
 pub loop-j-init : goal.loop-j-init
-loop-j-init c = record { rendered = rendering_start _ _ _ _ _; roomy = roomy_zeros }
+loop-j-init c = rendering_start _ _ _ _ _
 
 pub slice_bounds-index_row-end : goal.slice_bounds-index_row-end
 slice_bounds-index_row-end c =
     let n = (goal.at.slice_bounds-index_row-end c).In-loop-j in
     omega (arith, room n, n.requires.worked)
 
-pub index_row-requires-clause-averages_in_bounds : goal.index_row-requires-clause-averages_in_bounds
-index_row-requires-clause-averages_in_bounds c =
-    let n = (goal.at.index_row-requires-clause-averages_in_bounds c).In-loop-j in
-    let v = n.requires in (
-      omega (arith, long n, roomy_columns n.args.s.shape.settings n.args.s.lawful n.args.l (made_roomy n c.predict_row.ensures)),
-      omega (arith, long n, across n, room n, v.filled, n.loop-j.invariant.rendered.long),
-    )
+pub slice_bounds-index_row-end-in-loop-j : goal.slice_bounds-index_row-end-in-loop-j
+slice_bounds-index_row-end-in-loop-j c =
+    let n = (goal.at.slice_bounds-index_row-end-in-loop-j c).In-loop-j in
+    omega (arith, room n, n.requires.filled, n.loop-j.invariant.long)
 
 pub index_row-requires-clause-small : goal.index_row-requires-clause-small
 index_row-requires-clause-small c =
@@ -70,22 +71,19 @@ index_row-requires-clause-small c =
     subst (Small 8388608) (sym (averages n)) (averages_small n.requires (turn n))
 
 pub index_row-requires-clause-small_2 : goal.index_row-requires-clause-small_2
-index_row-requires-clause-small_2 c = (made_roomy (goal.at.index_row-requires-clause-small_2 c).In-loop-j c.predict_row.ensures).small
+index_row-requires-clause-small_2 c = made_small (goal.at.index_row-requires-clause-small_2 c).In-loop-j c.predict_row.ensures
 
 pub index_row-requires-clause-indices_within : goal.index_row-requires-clause-indices_within
 index_row-requires-clause-indices_within c =
     let n = (goal.at.index_row-requires-clause-indices_within c).In-loop-j in
     subst (λ (xs : List ℤ). IndicesWithin xs c.predict_row.new.row (bin n.args.s.shape.settings n.args.l)) (sym (averages n))
-    (indices_within n.requires (turn n) n.loop-j.row c.predict_row.ensures)
+    (indices_within n.requires (turn n) c.predict_row.ensures)
 
 pub loop-j-preserved : goal.loop-j-preserved
 loop-j-preserved c =
     let n = (goal.at.loop-j-preserved c).In-loop-j in
-    record {
-      rendered =
-          index_row n.requires (turn n) n.loop-j.row c.predict_row.ensures n.loop-j.invariant.rendered (place n) (averages n) c.index_row.ensures;
-      roomy = made_roomy n c.predict_row.ensures;
-    }
+    index_row n.requires (turn n) c.predict_row.ensures n.loop-j.invariant (place n) (averages n) (written n ∙ across n)
+    (lent_back _ _ _ _ n.loop-j.levels _ c.index_row.ensures (omega (arith, written n)))
 
 pub returns : goal.returns
-returns c = rendering_end c.loop-j.invariant.rendered (omega (arith, c.loop-j-test.false, c.rows_at-rows.ensures.0))
+returns c = rendering_end c.loop-j.invariant (omega (arith, c.loop-j-test.false, c.rows_at-rows.ensures.0))

@@ -4,15 +4,18 @@ use Prim.Native.Nat.{ℕ, suc, ◌+◌, ◌-◌, ◌*◌, ◌≤◌, ◌<◌}
 use native.Mathlib.Numerals.{add-one}
 use native.Mathlib.Omega.{arith}
 use lib.ListN.{length}
+use Rattle.mathematics.specs.Inner.Splices.{part}
 use Rattle.pyramid.specs.Definitions.Sizes.{columns_at, rows_at, nodes_at, total}
 use Rattle.pyramid.specs.Definitions.Buffers.{start}
 use Rattle.pyramid.proofs.Sizes.{total_most}
+use Rattle.pyramid.proofs.LevelSteps.{Source}
 use Rattle.pyramid.proofs.LevelParts.{start-below, level_inside}
-use Rattle.pyramid.proofs.Prediction.{zeros_written, top_row, below_row, below-source, below_sizes}
+use Rattle.pyramid.proofs.Prediction.{top_row, below_row, below-source, below_sizes}
 use Rattle.pyramid.proofs.layering.predict_row.Goals as goal
+use Rattle.pyramid.proofs.layering.predict_row.Goals.{After-rows_at-rows}
 
--- what is known once the place and size of the level above are there
-module _ (r : goal.After-rows_at-rows) where
+-- what is known once the size of the level above is there
+module _ (r : After-rows_at-rows) where
   below : r.args.l < r.args.s.shape.settings.depth
   below = omega (arith, r.if-l-s.false, r.requires.l_le_depth.0)
 
@@ -35,43 +38,41 @@ module _ (r : goal.After-rows_at-rows) where
   before-all : r.args.from ≤ total r.args.s.shape.settings
   before-all = omega (arith, end, level_inside r.args.s.shape.settings (suc r.args.l) below)
 
-  inside : r.args.from ≤ length r.args.work.now
-  inside = omega (arith, before-all, r.requires.l_le_depth.2)
-
   near : r.args.from ≤ 22359
   near = omega (arith, before-all, total_most r.args.s.shape.settings r.args.s.lawful.shaped)
 
-pub overflow_mul-above : goal.overflow_mul-above
-overflow_mul-above c = record { fits = omega (arith, nodes c, end c, near c) }
-
-pub overflow_sub-above : goal.overflow_sub-above
-overflow_sub-above c = omega (arith, nodes c, end c)
-
-pub offset_bounds-work-above : goal.offset_bounds-work-above
-offset_bounds-work-above c = record { fits = omega (arith, near c) }
-
-pub slice_bounds-expand_row-end : goal.slice_bounds-expand_row-end
-slice_bounds-expand_row-end c = inside c
-
-pub expand_row-requires : goal.expand_row-requires
-expand_row-requires c =
-    let r = c.before.before in
-    let a = r.args in
-    record {
-      kernel = a.s.lawful.shaped.kernel;
-      source = below-source a.s.shape.settings a.l a.j a.work.now a.s.lawful r.requires.l_le_depth.2 (below r) (place r) (end r) (along r) (across r) 524288 r.requires.level_small;
-      j_bound = below_sizes a.s.shape.settings a.l a.j a.work.now a.s.lawful r.requires.l_le_depth.2 (below r) (place r) (end r) (along r) (across r) (length a.row.now) r.requires.l_le_depth.1 r.requires.l_le_depth.3;
-    }
+  source : Source 524288 r.columns_at-columns.result r.rows_at-rows.result (part (r.args.from - r.rows_at-rows.result * r.columns_at-columns.result) r.args.from r.args.work.now)
+  source = below-source r.args.s.shape.settings r.args.l r.args.j r.args.work.now r.args.s.lawful r.requires.l_le_depth.2 below place end along across 524288 r.requires.level_small
 
 pub returns-then-l-s : goal.returns-then-l-s
 returns-then-l-s c =
     let a = c.args in
-    rw (c.fill.ensures.after (λ y h. h), c.columns_at.ensures.0) (zeros_written (columns_at a.s.shape.settings a.l) a.row.now c.requires.l_le_depth.3)
-    ∙ top_row a.s.shape.settings a.l a.j a.work.now a.row.now (omega (arith, c.if-l-s.true))
+    c.fill.ensures.after (λ y h. h) ∙ top_row a.s.shape.settings a.l a.j a.work.now (omega (arith, c.if-l-s.true)) _ c.requires.l_le_depth.3
+
+pub overflow_sub-above : goal.overflow_sub-above
+overflow_sub-above c = let r = (goal.at.overflow_sub-above c).After-rows_at-rows in omega (arith, nodes r, end r)
+
+pub offset_bounds-work-from : goal.offset_bounds-work-from
+offset_bounds-work-from c = omega (arith, near (goal.at.offset_bounds-work-from c).After-rows_at-rows)
+
+pub slice_bounds-above-end : goal.slice_bounds-above-end
+slice_bounds-above-end c = let r = (goal.at.slice_bounds-above-end c).After-rows_at-rows in omega (arith, before-all r, r.requires.l_le_depth.2)
+
+pub invariant_of-above : goal.invariant_of-above
+invariant_of-above c = let s = source (goal.at.invariant_of-above c).After-rows_at-rows in record { wide = s.wide; high = s.high; filled = s.filled }
+
+pub expand_row-requires-clause-j_bound : goal.expand_row-requires-clause-j_bound
+expand_row-requires-clause-j_bound c =
+    let r = (goal.at.expand_row-requires-clause-j_bound c).After-rows_at-rows in
+    let a = r.args in
+    below_sizes a.s.shape.settings a.l a.j a.work.now r.args.s.lawful r.requires.l_le_depth.2 (below r) (place r) (end r) (along r) (across r) (length a.row.now) r.requires.l_le_depth.1 r.requires.l_le_depth.3
+
+pub expand_row-requires-clause-small : goal.expand_row-requires-clause-small
+expand_row-requires-clause-small c = (source (goal.at.expand_row-requires-clause-small c).After-rows_at-rows).small
 
 pub returns-else-l-s : goal.returns-else-l-s
 returns-else-l-s c =
-    let r = c.before.before.before.before in
+    let r = (goal.at.returns-else-l-s c).After-rows_at-rows in
     let a = r.args in
-    c.expand_row.ensures
-    ∙ below_row a.s.shape.settings a.l a.j a.work.now a.row.now a.s.lawful r.requires.l_le_depth.2 (below r) r.requires.l_le_depth.1 (place r) (end r) (along r) (across r)
+    (rw c.new.ensures at c.expand_row.ensures)
+    ∙ below_row a.s.shape.settings a.l a.j a.work.now r.args.s.lawful r.requires.l_le_depth.2 (below r) (place r) (end r) (along r) (across r) r.requires.l_le_depth.1

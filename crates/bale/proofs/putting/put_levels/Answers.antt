@@ -1,0 +1,51 @@
+-- `bale::putting::put_levels` meets its contract: level by level. Assumes nothing.
+use mathlib.Core.Path.{ap, ◌∙◌}
+use native.Mathlib.Omega.{arith}
+use lib.ListN.{length}
+use Rattle.pyramid.proofs.Sizes.{nodes_down, nodes_most, total-is}
+use Rattle.pyramid.proofs.LevelParts.{least_nodes}
+use Rattle.bale.specs.Definitions.Files.{file_length}
+use Rattle.bale.proofs.Checks.{nodes_here}
+use Rattle.bale.proofs.Pieces.{sections_last, sections_more}
+use Rattle.bale.proofs.putting.put_levels.Goals as goal
+
+pub loop-level-init : goal.loop-level-init
+unfolding file_length
+loop-level-init c =
+    let t = total-is c.args.shape.settings in
+    record { long = c.requires.levels_length ∙ t; room = omega (arith, t, c.requires.room, c.levels-at.ensures); left = rw c.levels-at.ensures }
+
+pub split_at-requires : goal.split_at-requires
+split_at-requires c =
+    let s = c.args.shape.settings in
+    omega (arith, nodes_here s c.loop-level.level (omega arith) c.level_nodes.ensures, least_nodes s c.loop-level.level)
+
+pub put_level-requires : goal.put_level-requires
+put_level-requires c =
+    let s = c.args.shape.settings in
+    let n = nodes_here s c.loop-level.level (omega arith) c.level_nodes.ensures in
+    let most = nodes_most s c.args.shape.shaped c.loop-level.level (omega arith) in
+    (omega (arith, n, most), omega (arith, n, least_nodes s c.loop-level.level))
+
+pub loop-level-preserved : goal.loop-level-preserved
+loop-level-preserved c =
+    let s = c.args.shape.settings in
+    let l = c.loop-level in
+    let n = nodes_here s l.level (omega arith) c.level_nodes.ensures in
+    let down = nodes_down s l.level (λ e. omega (arith, e)) in
+    let front = rw n at c.split_at.ensures.front in
+    let all = rw front at c.put_level.ensures in
+    record {
+      long = omega (arith, n, down);
+      room = omega (arith, n, down);
+      left = rw (c.split_at.ensures.back, n) (sections_more s l.level l.at l.left.now l.file all (λ e. omega (arith, e)) (omega (arith, ap length front)) (omega (arith, n, least_nodes s l.level))) ∙ l.invariant.left;
+    }
+
+pub returns-2 : goal.returns-2
+returns-2 c =
+    let s = c.args.shape.settings in
+    let l = c.loop-level in
+    let n = nodes_here s l.level (omega arith) c.level_nodes.ensures in
+    let front = rw n at c.split_at.ensures.front in
+    let all = rw front at c.put_level.ensures in
+    sections_last s l.level l.at l.left.now l.file all (omega arith) ∙ l.invariant.left

@@ -1,0 +1,36 @@
+// What the writer answers before it writes: a file's size, and which rule is broken first (document 01, "Who can cause which refusal").
+ghost use Rattle.std.specs.Prelude.{◌≡◌};
+ghost use Rattle.refusals.specs.Definitions.Outcomes.{outcome};
+ghost use Rattle.pyramid.specs.Inner.Shapes.{shape_settings};
+ghost use Rattle.bale.specs.Definitions.Files.{file_length};
+ghost use Rattle.bale.specs.Definitions.Calls.{write_refusal};
+
+use crate::Note;
+use pyramid::{LawfulSettings, Settings, Shape};
+use refusals::Refusal;
+
+// The bytes of a file of a shape.
+pub fn file_length(shape: Shape) -> usize
+    ensures { result ≡ file_length shape.settings }
+{
+    24 + 4 * (shape.settings.depth as usize + 1) + 2 * shape.nodes() as usize
+}
+
+// The shape of what the writer accepts, or the first rule that is broken.
+pub fn check(s: Settings, note: Note, levels: &[i16], room: usize) -> Result<Shape, Refusal>
+    ensures { shape_settings result ≡ outcome (write_refusal s note levels.now room) s }
+{
+    let lawful = LawfulSettings::new(s)?;
+    if !note.is_lawful() {
+        return Err(Refusal::Reading);
+    }
+    let shape = lawful.shape();
+    if levels.len() != shape.nodes() as usize {
+        return Err(Refusal::LevelsLength);
+    }
+    if room < file_length(shape) {
+        return Err(Refusal::FileLength);
+    }
+    lawful.check_levels(levels)?;
+    Ok(shape)
+}
