@@ -7,6 +7,7 @@ use Prim.Native.Nat.{ℕ, zero, suc, ◌+◌, ◌-◌, ◌*◌, ◌^◌, ◌≤�
 use native.Mathlib.Nat.{sub-zero, pow-zero, pow-suc, pow-le-pow_right}
 use native.Mathlib.Numerals.{add-one}
 use native.Mathlib.Omega.{arith}
+use Rattle.std.proofs.lemmas.Bool.Decides.{eqb_tells}
 use lib.ListN.{length, get_or, take, drop, length-drop, drop_of_length-le}
 use lib.Seq.{drop-cons}
 use Rattle.std.proofs.Common.{Bor, Option, Some, None}
@@ -137,9 +138,14 @@ pub found_none : (n : Number) → n.digits ≡ 0 → None ≡ number_found n
 unfolding number_found
 found_none n e = rw e
 
-found_some : (n : Number) → (n.digits ≡ 0 → ⊥) → Some n ≡ number_found n
+pub found_some : (n : Number) → (n.digits ≡ 0 → ⊥) → Some n ≡ number_found n
 unfolding number_found
 found_some n e = grind arith
+
+-- what was answered tells which it is
+pub found_by : (n : Number) {o : Option Number} → o ≡ number_found n → ((o ≡ None) × (n.digits ≡ 0)) ⊎ ((o ≡ Some n) × (n.digits ≡ 0 → ⊥))
+unfolding number_found
+found_by n {o} p = elim (eqb_tells n.digits 0) [ inl t ↦ inl (p ∙ rw (t.0), t.1) | inr t ↦ inr (p ∙ rw (t.0), t.1) ]
 
 -- past the end there is none
 abbrev pub none_there : Number

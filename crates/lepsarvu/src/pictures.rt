@@ -1,27 +1,19 @@
 // PGM pictures for programs in C or Rust: numbers and slices alone. include/lepsarvu.h declares each function.
 ghost use Rattle.std.specs.Prelude.{◌≡◌};
+ghost use Rattle.refusals.specs.Definitions.Outcomes.{answer_number};
 ghost use Rattle.pyramid.specs.Definitions.Calls.{leaves};
 ghost use Rattle.pgm.specs.Definitions.Calls.{check_pgm, read_pgm, size_answer, write_pgm};
+ghost use Rattle.lepsarvu.specs.Definitions.Exports.{given};
 
-use pgm::{PgmSize, PictureSize};
-
-// A size, into what was lent for it.
-fn give_pgm_size(answer: PgmSize, size: &mut usize) -> u16
-    ensures value { result ≡ answer.refusal }
-    ensures size_after { size.new ≡ leaves answer.refusal answer.size size.old }
-{
-    if answer.refusal == 0 {
-        *size = answer.size;
-    }
-    answer.refusal
-}
+use crate::give;
+use pgm::PictureSize;
+use refusals::Refusal;
 
 pub fn lepsarvu_pgm_size(columns: u16, rows: u16, size: &mut usize) -> u16
     ensures value { result ≡ (size_answer columns rows).refusal }
     ensures size_after { size.new ≡ leaves result (size_answer columns rows).size size.old }
 {
-    let answer = pgm::pgm_size(columns, rows);
-    give_pgm_size(answer, size)
+    give(pgm::pgm_size(columns, rows), size)
 }
 
 pub fn lepsarvu_write_pgm(
@@ -38,22 +30,24 @@ pub fn lepsarvu_write_pgm(
         leaves result (write_pgm columns rows picture.now file.old).answer.size
         size.old }
 {
-    let answer = pgm::write_pgm(columns, rows, picture, file);
-    give_pgm_size(answer, size)
+    give(pgm::write_pgm(columns, rows, picture, file), size)
 }
 
 // Width and height, into what was lent for them.
-fn give_picture_size(answer: PictureSize, columns: &mut u16, rows: &mut u16) -> u16
-    ensures value { result ≡ answer.refusal }
-    ensures columns_after { columns.new ≡
-        leaves answer.refusal answer.columns columns.old }
-    ensures rows_after { rows.new ≡ leaves answer.refusal answer.rows rows.old }
+#[tactic(auto, unfolding(crate::specs::Definitions::Exports::given, refusals::specs::Definitions::Outcomes::answer_number))]
+fn give_picture_size(answer: Result<PictureSize, Refusal>, columns: &mut u16, rows: &mut u16) -> u16
+    ensures value { result ≡ answer_number answer }
+    ensures columns_after { columns.new ≡ given answer (λ size. size.columns) columns.old }
+    ensures rows_after { rows.new ≡ given answer (λ size. size.rows) rows.old }
 {
-    if answer.refusal == 0 {
-        *columns = answer.columns;
-        *rows = answer.rows;
+    match answer {
+        Ok(size) => {
+            *columns = size.columns;
+            *rows = size.rows;
+            0
+        }
+        Err(refusal) => u16::from(refusal),
     }
-    answer.refusal
 }
 
 pub fn lepsarvu_read_pgm(file: &[u8], picture: &mut [u8], columns: &mut u16, rows: &mut u16) -> u16
@@ -65,8 +59,7 @@ pub fn lepsarvu_read_pgm(file: &[u8], picture: &mut [u8], columns: &mut u16, row
     ensures rows_after { rows.new ≡
         leaves result (read_pgm file.now picture.old).answer.rows rows.old }
 {
-    let answer = pgm::read_pgm(file, picture);
-    give_picture_size(answer, columns, rows)
+    give_picture_size(pgm::read_pgm(file, picture), columns, rows)
 }
 
 pub fn lepsarvu_check_pgm(file: &[u8], columns: &mut u16, rows: &mut u16) -> u16
@@ -75,6 +68,5 @@ pub fn lepsarvu_check_pgm(file: &[u8], columns: &mut u16, rows: &mut u16) -> u16
         leaves result (check_pgm file.now).columns columns.old }
     ensures rows_after { rows.new ≡ leaves result (check_pgm file.now).rows rows.old }
 {
-    let answer = pgm::check_pgm(file);
-    give_picture_size(answer, columns, rows)
+    give_picture_size(pgm::check_pgm(file), columns, rows)
 }

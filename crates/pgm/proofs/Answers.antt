@@ -1,28 +1,29 @@
 -- What is answered where a rule of a reader is broken, and where none is; and what an accepted size says. Assumes nothing.
-use mathlib.Core.Path.{◌≡◌, refl, sym, ap, ◌∙◌}
+use Rattle.std.proofs.Common.{◌≡◌, refl, sym, ap, ◌∙◌, Some, None, Err, Ok, arith}
 use mathlib.Core.Logic.{◌≢◌}
-use mathlib.Core.Bool.{Bool, true, false, not}
+use mathlib.Core.Bool.{Bool, true, false}
 use mathlib.Core.List.{List, [], ◌∷◌}
 use Prim.Native.Nat.{ℕ, ◌+◌, ◌-◌, ◌*◌, ◌≤◌}
 use native.Mathlib.Nat.{mul-le-mul}
-use native.Mathlib.Omega.{arith}
-use borrow.Author.Tests.{not-true, not-false, eq-eqb, ne_eqb}
-use lib.Dec.{T, eqb, eqb→eq}
+use borrow.Author.Tests.{eq-eqb, ne_eqb}
+use lib.Dec.{T, eqb}
 use lib.ListN.{length, take, drop, length-drop}
 use lib.Seq.{take_all}
-use Rattle.mathematics.specs.Inner.Splices.{splice}
-use Rattle.mathematics.proofs.Splices.{splice_whole}
+use Rattle.refusals.specs.declared.Refusal.TheVariants.{Header, Greatest, PixelCount, PictureLength}
+use Rattle.refusals.specs.Definitions.Outcomes.{outcome}
+use Rattle.refusals.proofs.Outcomes.{refuses, accepts}
 use Rattle.pyramid.specs.Definitions.Settings.{size_ok}
 use Rattle.pyramid.specs.Definitions.Refusals.{unless, first}
 use Rattle.pyramid.specs.Checks.Conditions.{SideRule}
-use Rattle.pyramid.proofs.Refusals.{first_nil, first_none, unless_none, unless_fails, answers_stop, answers_skip, answers_fails, answers_passes, leaves_kept}
+use Rattle.pyramid.proofs.Refusals.{first_nil, first_stop, unless_none, unless_fails, answers_skip, answers_fails, answers_passes, leaves_new, leaves_kept}
 use Rattle.pyramid.proofs.RuleTests.{size_decides}
-use Rattle.pgm.specs.declared.Header.{Header}
-use Rattle.pgm.specs.declared.PictureSize.{PictureSize}
-use Rattle.pgm.specs.Definitions.Header.{header_ok, columns_in, rows_in, greatest_in, pixels_place}
-use Rattle.pgm.specs.Definitions.Calls.{check_refusal, read_refusal, ReadOutcome, size_in, check_pgm, read_pgm}
-use Rattle.pgm.specs.Inner.Found.{header_in}
-use Rattle.pgm.proofs.Acceptance.{accepted_file, size_is, reading_is}
+use Rattle.pgm.specs.declared.finding.Header.{Header as Found}
+use Rattle.pgm.specs.declared.checking.Picture.{Picture}
+use Rattle.pgm.specs.Definitions.Header.{columns_in, rows_in, pixels_place}
+use Rattle.pgm.specs.Definitions.Calls.{check_refusal, read_refusal, picture_size, size_in, check_pgm, read_pgm}
+use Rattle.pgm.specs.Inner.Found.{header_in, picture_in}
+use Rattle.pgm.proofs.Headers.{HeaderThere, header_parts, header_absent, pixels_within}
+use Rattle.pgm.proofs.Acceptance.{accepted_file, reading_accepted, reading_is}
 
 -- ---- number 1
 
@@ -37,8 +38,8 @@ sized columns rows t =
     let (across, along) = (size_decides columns rows).0 t in
     record { across = across; along = along; most = mul-le-mul along.1 across.1 }
 
-pub size_accepted : (columns rows : ℕ) {m : ℕ} → m ≡ unless (size_ok columns rows) 1 → m ≡ 0 → Sized columns rows
-size_accepted columns rows e none = sized columns rows (unless_none (size_ok columns rows) 0 (sym e ∙ none))
+pub size_accepted : (columns rows : ℕ) → unless (size_ok columns rows) 1 ≡ 0 → Sized columns rows
+size_accepted columns rows none = sized columns rows (unless_none (size_ok columns rows) 0 none)
 
 pub too_large : (columns rows : ℕ) → (SideRule columns × SideRule rows → ⊥) → 1 ≡ unless (size_ok columns rows) 1
 too_large columns rows refused = sym (unless_fails 1 (by_test (size_ok columns rows) (λ t. refused ((size_decides columns rows).0 t))))
@@ -47,112 +48,100 @@ too_large columns rows refused = sym (unless_fails 1 (by_test (size_ok columns r
     by_test true h = absurd (h tt)
     by_test false h = refl
 
--- ---- the readers, by what was found in the header
+-- ---- the readers' rules, by what was found in the header; a refusal is alone, whatever the value would be
 
-module _ (bytes : List ℕ) {h : Header} (e : h ≡ header_in bytes) where
-  pub found_size : check_refusal bytes ≡ 0 → Sized h.columns h.rows
-  unfolding header_in
-  found_size none = rw e (sized (columns_in bytes) (rows_in bytes) (accepted_file bytes none).sized)
+module _ (bytes : List ℕ) {A : Type 0} (value : A) where
+  pub no_header : None ≡ header_in bytes → Err Header ≡ outcome (check_refusal bytes) value
+  unfolding check_refusal
+  no_header e = refuses value Header (answers_fails {number = 15} _ (header_absent bytes e))
 
-  pub found_answer : record { refusal = 0; columns = h.columns; rows = h.rows } ≡ size_in bytes 0
-  unfolding header_in
-  found_answer = rw e (sym (size_is bytes))
+module _ (bytes : List ℕ) {h : Found} (e : Some h ≡ header_in bytes) where
+  there : HeaderThere bytes h
+  there = header_parts bytes e
 
-  pub bad_header : not h.ok ≡ true → 16 ≡ check_refusal bytes
-  unfolding check_refusal header_in
-  bad_header bad = answers_fails _ (not-true (header_ok bytes) (rw e at bad))
+  abbrev size_number : ℕ
+  size_number = unless (size_ok h.columns h.rows) 1
 
-  module _ (good : not h.ok ≡ false) {size : ℕ} (one : size ≡ unless (size_ok h.columns h.rows) 1) where
-    header_holds : header_ok bytes ≡ true
-    unfolding header_in
-    header_holds = not-false (header_ok bytes) (rw e at good)
+  -- the place and the pixels can be added up
+  pub whole_within : {size : ℕ} → size_number ≡ 0 → size ≡ h.rows * h.columns → h.pixels + size ≤ length bytes + 16644
+  whole_within none s =
+      let small = (size_accepted h.columns h.rows none).most in
+      let place : h.pixels ≤ length bytes + 3 = rw there.is (pixels_within bytes) in
+      omega arith
 
-    size_number : size ≡ unless (size_ok (columns_in bytes) (rows_in bytes)) 1
-    unfolding header_in
-    size_number = rw e at one
+  after_header : first (size_number ∷ unless (eqb h.greatest 255) 17 ∷ unless (eqb (length bytes) (h.pixels + h.rows * h.columns)) 18 ∷ []) ≡ check_refusal bytes
+  unfolding check_refusal
+  after_header = rw there.is (answers_passes 16 _ there.ok)
 
-    pub bad_size : (size ≡ 0 → ⊥) → size ≡ check_refusal bytes
-    unfolding check_refusal
-    bad_size refused = answers_stop _ size_number refused ∙ answers_passes 16 _ header_holds
+  pub bad_size : (size_number ≡ 0 → ⊥) → check_refusal bytes ≡ size_number
+  bad_size refused = sym after_header ∙ first_stop size_number _ refused
 
-    module _ (sizes : size ≡ 0) {grey : ℕ} (seventeen : grey ≡ unless (eqb h.greatest 255) 17) where
-      grey_number : grey ≡ unless (eqb (greatest_in bytes) 255) 17
-      unfolding header_in
-      grey_number = rw e at seventeen
+  module _ (sizes : size_number ≡ 0) where
+    after_size : first (unless (eqb h.greatest 255) 17 ∷ unless (eqb (length bytes) (h.pixels + h.rows * h.columns)) 18 ∷ []) ≡ check_refusal bytes
+    after_size = answers_skip _ refl sizes ∙ after_header
 
-      pub bad_grey : (grey ≡ 0 → ⊥) → grey ≡ check_refusal bytes
-      unfolding check_refusal
-      bad_grey refused = answers_stop _ grey_number refused ∙ answers_skip _ size_number sizes ∙ answers_passes 16 _ header_holds
+    pub bad_grey : {A : Type 0} (value : A) → h.greatest ≢ 255 → Err Greatest ≡ outcome (check_refusal bytes) value
+    bad_grey value other = refuses value Greatest (answers_fails {number = 16} _ (ne_eqb _ _ other) ∙ after_size)
 
-      -- the last rule's number, after those that hold
-      module _ (greys : grey ≡ 0) where
-        after_grey : first (unless (eqb (length bytes) (pixels_place bytes + rows_in bytes * columns_in bytes)) 18 ∷ []) ≡ check_refusal bytes
-        unfolding check_refusal
-        after_grey = answers_skip _ grey_number greys ∙ answers_skip _ size_number sizes ∙ answers_passes 16 _ header_holds
+    module _ (grey : h.greatest ≡ 255) {size : ℕ} (long : size ≡ h.rows * h.columns) where
+      after_grey : first (unless (eqb (length bytes) (h.pixels + size)) 18 ∷ []) ≡ check_refusal bytes
+      after_grey = rw long (answers_passes 17 _ (eq-eqb _ _ grey) ∙ after_size)
 
-        pub bad_pixels : length bytes ≢ h.pixels + h.rows * h.columns → 18 ≡ check_refusal bytes
-        unfolding header_in
-        bad_pixels other = answers_fails _ (ne_eqb _ _ (rw e at other)) ∙ after_grey
+      pub bad_pixels : {A : Type 0} (value : A) → length bytes ≢ h.pixels + size → Err PixelCount ≡ outcome (check_refusal bytes) value
+      bad_pixels value other = refuses value PixelCount (answers_fails {number = 17} _ (ne_eqb _ _ other) ∙ after_grey)
 
-        pub all_good : length bytes ≡ h.pixels + h.rows * h.columns → 0 ≡ check_refusal bytes
-        unfolding header_in
-        all_good same = sym first_nil ∙ answers_passes 18 _ (eq-eqb _ _ (rw e at same)) ∙ after_grey
+      pub all_good : length bytes ≡ h.pixels + size → Ok (record { size = record { columns = h.columns; rows = h.rows }; pixels = h.pixels }) ≡ outcome (check_refusal bytes) (picture_in bytes)
+      unfolding picture_in
+      all_good same = rw there.is (accepts (picture_in bytes) (sym (sym first_nil ∙ answers_passes 18 _ (eq-eqb _ _ same) ∙ after_grey)))
 
-  module _ (room : ℕ) {checked : ℕ} (c : checked ≡ check_refusal bytes) where
-    pub check_refused : (checked ≡ 0 → ⊥) → checked ≡ read_refusal bytes room
-    unfolding read_refusal
-    check_refused refused = answers_stop _ c refused
+-- ---- what the readers answer, of a file that is accepted but for the picture
 
-    module _ (none : checked ≡ 0) where
-      pub picture_refused : room ≢ h.rows * h.columns → 5 ≡ read_refusal bytes room
-      unfolding read_refusal header_in
-      picture_refused other = answers_fails _ (ne_eqb _ _ (rw e at other)) ∙ answers_skip _ c none
+module _ (bytes : List ℕ) (none : check_refusal bytes ≡ 0) {found : Picture} (is : found ≡ picture_in bytes) where
+  place : found.pixels ≡ pixels_place bytes
+  unfolding picture_in
+  place = rw is
 
-      pub none_refused : room ≡ h.rows * h.columns → 0 ≡ read_refusal bytes room
-      unfolding read_refusal header_in
-      none_refused same = sym first_nil ∙ answers_passes 5 _ (eq-eqb _ _ (rw e at same)) ∙ answers_skip _ c none
+  pub pixels_inside : found.pixels ≤ length bytes
+  pixels_inside = omega (arith, (accepted_file bytes none).whole, place)
 
-  -- ---- a file that is read: where its pixels stand, and what a copy of them leaves
+  pub checked : Ok found.size ≡ outcome (check_pgm bytes).refusal (picture_size (check_pgm bytes))
+  unfolding check_pgm size_in picture_in outcome
+  checked = rw (none, leaves_new 0 (columns_in bytes) 0 refl, leaves_new 0 (rows_in bytes) 0 refl, is)
 
-  module _ (picture : List ℕ) (none : read_refusal bytes (length picture) ≡ 0) where
-    pub read_checked : check_refusal bytes ≡ 0
-    unfolding read_refusal
-    read_checked = (first_none _ _ none).0
+  abbrev pub pixels : List ℕ
+  pixels = take (length bytes - found.pixels) (drop found.pixels bytes)
 
-    read_room : length picture ≡ rows_in bytes * columns_in bytes
-    unfolding read_refusal
-    read_room = eqb→eq (length picture) _ (unless_none (eqb (length picture) (rows_in bytes * columns_in bytes)) 4 (first_none _ _ (first_none _ _ none).1).0)
+  pixels_are : pixels ≡ drop (pixels_place bytes) bytes
+  pixels_are = rw place (take_all (length bytes - pixels_place bytes) (drop (pixels_place bytes) bytes) (omega (arith, length-drop (pixels_place bytes) bytes)))
 
-    pub pixels_most : length picture ≤ 16641
-    pixels_most = rw read_room (sized (columns_in bytes) (rows_in bytes) (accepted_file bytes read_checked).sized).most
+  long : length pixels ≡ rows_in bytes * columns_in bytes
+  long = rw pixels_are (omega (arith, length-drop (pixels_place bytes) bytes, (accepted_file bytes none).whole))
 
-    pub pixels_long : length bytes ≡ h.pixels + length picture
-    unfolding header_in
-    pixels_long = rw (e, read_room) (accepted_file bytes read_checked).whole
+  module _ (picture : List ℕ) where
+    -- 5, and nothing is touched
+    pub picture_refused : length picture ≢ length pixels
+        → (Err PictureLength ≡ outcome (read_pgm bytes picture).answer.refusal (picture_size (read_pgm bytes picture).answer)) × (picture ≡ (read_pgm bytes picture).picture)
+    unfolding read_pgm read_refusal size_in
+    picture_refused other =
+        let five : 5 ≡ read_refusal bytes (length picture) = answers_fails {number = 4} _ (ne_eqb _ _ (rw long at other)) ∙ answers_skip _ refl none in
+        let some : read_refusal bytes (length picture) ≡ 0 → ⊥ = λ z. omega (arith, five, z) in
+        (refuses _ PictureLength five, sym (leaves_kept _ _ _ some))
 
-    pub pixels-copied : {w : List ℕ} → w ≡ splice 0 (take (length bytes - h.pixels) (drop h.pixels bytes)) picture → w ≡ (read_pgm bytes picture).picture
-    unfolding header_in
-    pixels-copied {w} p =
-        let long = pixels_long in
-        let d = length-drop h.pixels bytes in
-        let t : take (length bytes - h.pixels) (drop h.pixels bytes) ≡ drop h.pixels bytes = take_all (length bytes - h.pixels) (drop h.pixels bytes) (omega arith) in
-        let all : w ≡ drop h.pixels bytes = p ∙ rw t (splice_whole (drop h.pixels bytes) picture (omega arith)) in
-        rw e at all ∙ sym (ap (λ (o : ReadOutcome). o.picture) (reading_is bytes picture none))
+    pub read : {w : List ℕ} → length picture ≡ length pixels → w ≡ pixels
+        → (Ok found.size ≡ outcome (read_pgm bytes picture).answer.refusal (picture_size (read_pgm bytes picture).answer)) × (w ≡ (read_pgm bytes picture).picture)
+    unfolding picture_in outcome
+    read same copied =
+        let e = reading_is bytes picture (reading_accepted bytes (length picture) none (same ∙ long)) in
+        let size : found.size ≡ record { columns = columns_in bytes; rows = rows_in bytes } = rw is in
+        rw e (ap Ok size, copied ∙ pixels_are)
 
-    pub read_answer : {answer : PictureSize} → answer ≡ size_in bytes 0 → answer ≡ (read_pgm bytes picture).answer
-    read_answer p = p ∙ size_is bytes ∙ sym (ap (λ (o : ReadOutcome). o.answer) (reading_is bytes picture none))
+-- ---- what the reader answers of a file that is refused before the picture is looked at, and that nothing is touched
 
-  -- ---- what is answered and left
+module _ (bytes picture : List ℕ) (refused : check_refusal bytes ≡ 0 → ⊥) where
+  pub stops : read_refusal bytes (length picture) ≡ check_refusal bytes
+  unfolding read_refusal
+  stops = first_stop _ _ refused
 
-  pub read_refused : (picture : List ℕ) {m : ℕ} → m ≡ read_refusal bytes (length picture) → (m ≡ 0 → ⊥)
-      → (record { refusal = m; columns = 0; rows = 0 } ≡ (read_pgm bytes picture).answer) × (picture ≡ (read_pgm bytes picture).picture)
-  unfolding read_pgm size_in
-  read_refused picture {m} n refused =
-      rw (← n) (
-        rw (leaves_kept m (columns_in bytes) 0 refused, leaves_kept m (rows_in bytes) 0 refused),
-        sym (leaves_kept m (drop (pixels_place bytes) bytes) picture refused),
-      )
-
-  pub check_refused_is : {m : ℕ} → m ≡ check_refusal bytes → (m ≡ 0 → ⊥) → record { refusal = m; columns = 0; rows = 0 } ≡ check_pgm bytes
-  unfolding check_pgm size_in
-  check_refused_is {m} n refused = rw (← n) (rw (leaves_kept m (columns_in bytes) 0 refused, leaves_kept m (rows_in bytes) 0 refused))
+  pub untouched : picture ≡ (read_pgm bytes picture).picture
+  unfolding read_pgm
+  untouched = sym (leaves_kept _ _ _ (rw (← stops) at refused))

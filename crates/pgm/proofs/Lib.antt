@@ -8,7 +8,6 @@ pub mod Passing
 pub mod Headers
 pub mod Answers
 pub mod Writings
-pub mod Copies
 pub mod Conditions
 pub mod Numbers
 pub mod Refused

@@ -1,11 +1,12 @@
 -- White space and comments passed byte by byte, and how far a number of the header can reach. Assumes nothing.
-use mathlib.Core.Path.{◌≡◌, refl, sym, ◌∙◌}
+use mathlib.Core.Path.{◌≡◌, refl, sym, ap, ◌∙◌}
 use mathlib.Core.Bool.{Bool, true, false, not, true≢false, ◌||◌}
 use mathlib.Core.List.{List, [], ◌∷◌}
-use Prim.Native.Nat.{ℕ, suc, ◌+◌, ◌≤◌, ◌<◌}
+use Prim.Native.Nat.{ℕ, suc, ◌+◌, ◌-◌, ◌≤◌, ◌<◌}
 use native.Mathlib.Omega.{arith}
 use lib.Dec.{eqb}
-use lib.ListN.{length, get_or, drop, length-drop, drop_of_length-le}
+use lib.ListN.{length, get_or, take, drop, length-drop, drop_of_length-le}
+use Rattle.std.proofs.lemmas.List.{take_all}
 use lib.Seq.{drop-cons}
 use Rattle.mathematics.proofs.Tests.{cond_elim}
 use Rattle.decimals.proofs.Reading.{number_within}
@@ -24,29 +25,36 @@ unfolding passed spaces
 spaces_none true b bytes e = absurd (true≢false e)
 spaces_none false b bytes e = rw e
 
--- ---- the loop: from `at` on, all up to i is passed
+-- ---- the loop: of the bytes from a place on, all up to i are passed
 
-pub record Passing (bytes : List ℕ) (at : ℕ) (inside : Bool) (i : ℕ) : Type 0 where
-  pub is : digits_place bytes at ≡ i + spaces inside (drop i bytes)
+pub record Passing (rest : List ℕ) (inside : Bool) (i : ℕ) : Type 0 where
+  pub is : spaces false rest ≡ i + spaces inside (drop i rest)
 
-pub passing_start : (bytes : List ℕ) (at : ℕ) → Passing bytes at false at
-unfolding digits_place
-passing_start bytes at = record { is = refl }
+pub passing_start : (rest : List ℕ) → Passing rest false 0
+passing_start rest = record { is = omega arith }
 
-module _ {bytes : List ℕ} {at : ℕ} {inside : Bool} {i : ℕ} (p : Passing bytes at inside i) where
-  pub passing_next : {t next : Bool} → i < length bytes → t ≡ passed inside (get_or bytes i 0) → t ≡ true → next ≡ inside_after inside (get_or bytes i 0)
-      → Passing bytes at next (i + 1)
+module _ {rest : List ℕ} {inside : Bool} {i : ℕ} (p : Passing rest inside i) where
+  pub passing_next : {t next : Bool} → i < length rest → t ≡ passed inside (get_or rest i 0) → t ≡ true → next ≡ inside_after inside (get_or rest i 0) → Passing rest next (i + 1)
   passing_next h e t n =
       record {
-        is = p.is ∙ rw (drop-cons bytes i 0 h, spaces-more inside (get_or bytes i 0) (drop (suc i) bytes) (sym e ∙ t), ← n) (let f : suc i ≡ i + 1 = omega arith in rw f (omega arith));
+        is = p.is ∙ rw (drop-cons rest i 0 h, spaces-more inside (get_or rest i 0) (drop (suc i) rest) (sym e ∙ t), ← n) (let f : suc i ≡ i + 1 = omega arith in rw f (omega arith));
       }
 
-  pub passing_stop : {t : Bool} → i < length bytes → t ≡ passed inside (get_or bytes i 0) → t ≡ false → i ≡ digits_place bytes at
-  passing_stop h e t = sym (p.is ∙ rw (drop-cons bytes i 0 h, spaces_none inside (get_or bytes i 0) (drop (suc i) bytes) (sym e ∙ t)) (omega arith))
+  module _ (bytes : List ℕ) (at : ℕ) (inside-is : at ≤ length bytes) (from : rest ≡ take (length bytes - at) (drop at bytes)) where
+    rest-is : rest ≡ drop at bytes
+    rest-is = from ∙ take_all (length bytes - at) (drop at bytes) (omega (arith, length-drop at bytes))
 
-  pub passing_past : length bytes ≤ i → i ≡ digits_place bytes at
-  unfolding spaces
-  passing_past h = sym (p.is ∙ rw (drop_of_length-le bytes {i = i} h) (omega arith))
+    pub passing_stop : {t : Bool} → i < length rest → t ≡ passed inside (get_or rest i 0) → t ≡ false → at + i ≡ digits_place bytes at
+    unfolding digits_place
+    passing_stop h e t =
+        let here : spaces false rest ≡ i = p.is ∙ rw (drop-cons rest i 0 h, spaces_none inside (get_or rest i 0) (drop (suc i) rest) (sym e ∙ t)) (omega arith) in
+        omega (arith, rw rest-is at here)
+
+    pub passing_past : length rest ≤ i → i ≤ length rest → length bytes ≡ digits_place bytes at
+    unfolding digits_place spaces
+    passing_past h k =
+        let here : spaces false rest ≡ i = p.is ∙ rw (drop_of_length-le rest {i = i} h) (omega arith) in
+        omega (arith, rw rest-is at here, ap length rest-is, length-drop at bytes)
 
 -- ---- nothing reaches past the end
 

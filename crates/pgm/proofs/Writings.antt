@@ -2,22 +2,29 @@
 use mathlib.Core.Path.{◌≡◌, refl, sym, ap, ◌∙◌}
 use mathlib.Core.Logic.{◌≢◌}
 use mathlib.Core.List.{List, [], ◌∷◌, ◌++◌, append_assoc}
-use Prim.Native.Nat.{ℕ, ◌+◌, ◌*◌, ◌≤◌, ◌<◌}
-use native.Mathlib.Nat.{add-zero}
+use Prim.Native.Nat.{ℕ, suc, ◌+◌, ◌-◌, ◌*◌, ◌≤◌, ◌<◌}
 use native.Mathlib.Omega.{arith}
 use borrow.Author.Tests.{eq-eqb, ne_eqb, le-leb, lt-leb}
+use borrow.Rule.Slice.PartMut.{put_mid}
 use lib.Dec.{leb}
 use lib.ListN.{length, set, drop, length-append}
+use lib.Seq.{drop-drop}
+use Rattle.std.proofs.Common.{Option, Some, Result, Ok, Err}
+use Rattle.std.specs.Option.{IsSome}
 use Rattle.mathematics.specs.Inner.Splices.{splice}
-use Rattle.mathematics.proofs.Splices.{splice_nil, splice-set, splice_append, splice_front, length-splice}
+use Rattle.mathematics.proofs.Splices.{splice-set, splice_append, splice_front, length-splice}
 use Rattle.decimals.specs.Definitions.Text.{decimal}
 use Rattle.decimals.proofs.Counting.{decimal_one, decimal-more, count_most, Put, put_room}
+use Rattle.refusals.specs.declared.Refusal.{Refusal}
+use Rattle.refusals.specs.declared.Refusal.TheVariants.{PictureLength, FileLength}
+use Rattle.refusals.specs.Definitions.Numbers.{number as number_of}
+use Rattle.refusals.specs.Definitions.Outcomes.{outcome}
+use Rattle.refusals.proofs.Outcomes.{refuses, accepts}
 use Rattle.pyramid.specs.Definitions.Settings.{size_ok}
 use Rattle.pyramid.specs.Definitions.Refusals.{unless, first}
-use Rattle.pyramid.proofs.Refusals.{first_nil, unless_holds, answers_stop, answers_skip, answers_fails, answers_passes, leaves_new, leaves_kept}
-use Rattle.pgm.specs.declared.PgmSize.{PgmSize}
+use Rattle.pyramid.proofs.Refusals.{first_nil, first_stop, answers_skip, answers_fails, answers_passes, leaves_kept, outcome_left}
 use Rattle.pgm.specs.Definitions.Files.{number_then, header_of, pgm_of, pgm_length}
-use Rattle.pgm.specs.Definitions.Calls.{WriteOutcome, size_answer, write_refusal, write_pgm}
+use Rattle.pgm.specs.Definitions.Calls.{size_answer, write_refusal, write_pgm}
 use Rattle.pgm.proofs.Acceptance.{accepted_writing, writing_is}
 use Rattle.pgm.proofs.Answers.{size_accepted}
 
@@ -67,35 +74,35 @@ header_fits columns rows h = omega arith
 
 -- ---- pieces
 
-pub put_three : (a b c : ℕ) (l : List ℕ) → 3 ≤ length l → set (set (set l 0 a) 1 b) 2 c ≡ splice 0 (a ∷ b ∷ c ∷ []) l
-put_three a b c l h =
-    let one : set l 0 a ≡ splice 0 (a ∷ []) l = rw (splice_nil 0 l) at (splice-set 0 [] l (omega arith) a (omega arith)) in
-    rw one (rw (splice-set 0 (a ∷ []) l (omega arith) b (omega arith)) (splice-set 0 (a ∷ b ∷ []) l (omega arith) c (omega arith)))
-
-pub put_four : (at : ℕ) (l : List ℕ) → at + 4 ≤ length l → set (set (set (set l at 50) (at + 1) 53) (at + 2) 53) (at + 3) 10 ≡ splice at (number_then 255 10) l
-put_four at l h =
-    let one : set l at 50 ≡ splice at (50 ∷ []) l = rw (splice_nil at l, add-zero) at (splice-set at [] l (omega arith) 50 (omega arith)) in
-    rw (greatest_is, one)
-    (rw (splice-set at (50 ∷ []) l (omega arith) 53 (omega arith), splice-set at (50 ∷ 53 ∷ []) l (omega arith) 53 (omega arith))
-    (splice-set at (50 ∷ 53 ∷ 53 ∷ []) l (omega arith) 10 (omega arith)))
+-- bytes that were copied to a place
+pub put_bytes : (at : ℕ) (bytes l : List ℕ) {w : List ℕ} → w ≡ bytes → put_mid at (at + length bytes - at) l w ≡ splice at bytes l
+unfolding splice
+put_bytes at bytes l e = let k : at + length bytes - at ≡ length bytes = omega arith in rw (e, k, drop-drop (length bytes) at l)
 
 -- a number that was put, and its white space byte
-module _ (n at : ℕ) (l : List ℕ) {w : List ℕ} {count : ℕ} (room : at + (length (decimal n) + 1) ≤ length l) (put : Put n at l count w) where
-  pub then_end : at + count < length l
-  then_end = let r = put_room n at l (omega arith) put in omega (arith, r.0)
+module _ (n at : ℕ) (l : List ℕ) {w : List ℕ} {o : Option ℕ} (room : at + (length (decimal n) + 1) ≤ length l) (put : Put n at l o w) where
+  there : (o ≡ Some (length (decimal n))) × (w ≡ splice at (decimal n) l)
+  there = put_room n at l (omega arith) put
 
-  -- the byte has its place
-  pub then_inside : at + count < length w
-  then_inside =
-      let r = put_room n at l (omega arith) put in
-      let same : length w ≡ length l = rw r.1 (length-splice at (decimal n) l (omega arith)) in
-      omega (arith, then_end)
+  pub put_some : IsSome o
+  put_some = rw there.0
 
-  pub put_then : (space : ℕ) → (at + count + 1 ≡ at + (length (decimal n) + 1)) × (set w (at + count) space ≡ splice at (number_then n space) l)
-  unfolding number_then
-  put_then space =
-      let r = put_room n at l (omega arith) put in
-      (omega (arith, r.0), rw (r.1, r.0) (splice-set at (decimal n) l (omega arith) space (omega arith)))
+  module _ {count : ℕ} (is : o ≡ Some count) where
+    counted : count ≡ length (decimal n)
+    counted = let same : Some count ≡ Some (length (decimal n)) = sym is ∙ there.0 in cc
+
+    pub then_end : at + count < length l
+    then_end = omega (arith, counted)
+
+    -- the byte has its place
+    pub then_inside : at + count < length w
+    then_inside =
+        let same : length w ≡ length l = rw there.1 (length-splice at (decimal n) l (omega arith)) in
+        omega (arith, then_end)
+
+    pub put_then : (space : ℕ) → (at + count + 1 ≡ at + (length (decimal n) + 1)) × (set w (at + count) space ≡ splice at (number_then n space) l)
+    unfolding number_then
+    put_then space = (omega (arith, counted), rw (there.1, counted) (splice-set at (decimal n) l (omega arith) space (omega arith)))
 
 -- one piece more
 put_next : (at second : ℕ) (xs ys l : List ℕ) {w v : List ℕ} → at + length xs ≤ length l → second ≡ at + length xs → w ≡ splice at xs l → v ≡ splice second ys w
@@ -106,7 +113,7 @@ pub put_header : (columns rows : ℕ) (l : List ℕ) {w₀ w₁ w₂ w₃ : List
     → w₀ ≡ splice 0 (80 ∷ 53 ∷ 10 ∷ []) l
     → second ≡ 3 + (length (decimal columns) + 1) → w₁ ≡ splice 3 (number_then columns 32) w₀
     → third ≡ second + (length (decimal rows) + 1) → w₂ ≡ splice second (number_then rows 10) w₁
-    → last ≡ third + 4 → w₃ ≡ splice third (number_then 255 10) w₂
+    → last ≡ third + 4 → w₃ ≡ splice third (50 ∷ 53 ∷ 53 ∷ 10 ∷ []) w₂
     → (last ≡ length (header_of columns rows)) × (w₃ ≡ splice 0 (header_of columns rows) l)
 unfolding header_of
 put_header columns rows l {w₀} {w₁} {w₂} {w₃} {second} {third} {last} room p₀ s₁ p₁ s₂ p₂ s₃ p₃ =
@@ -122,7 +129,7 @@ put_header columns rows l {w₀} {w₁} {w₂} {w₃} {second} {third} {last} ro
     let ncr = length-append (name ++ c) r in
     let q₁ : w₁ ≡ splice 0 (name ++ c) l = put_next 0 3 name c l (omega arith) (omega arith) p₀ p₁ in
     let q₂ : w₂ ≡ splice 0 ((name ++ c) ++ r) l = put_next 0 second (name ++ c) r l (omega arith) (omega arith) q₁ p₂ in
-    let q₃ : w₃ ≡ splice 0 (((name ++ c) ++ r) ++ g) l = put_next 0 third ((name ++ c) ++ r) g l (omega arith) (omega arith) q₂ p₃ in
+    let q₃ : w₃ ≡ splice 0 (((name ++ c) ++ r) ++ g) l = put_next 0 third ((name ++ c) ++ r) g l (omega arith) (omega arith) q₂ (rw (← greatest_is) at p₃) in
     (omega arith, rw (append_assoc (name ++ c) r g, append_assoc name c (r ++ g)) at q₃)
 
 pub put_picture : (columns rows : ℕ) (picture l : List ℕ) {w v : List ℕ} {at : ℕ} → write_refusal columns rows (length picture) (length l) ≡ 0
@@ -138,65 +145,64 @@ put_picture columns rows picture l {w} {v} {at} e s p q =
 -- ---- what the writer answers
 
 module _ (columns rows : ℕ) where
-  pub size_refused : {m : ℕ} → m ≡ unless (size_ok columns rows) 1 → (m ≡ 0 → ⊥) → record { refusal = m; size = 0 } ≡ size_answer columns rows
-  unfolding size_answer
-  size_refused {m} e refused = rw (← e, leaves_kept m (pgm_length columns rows) 0 refused)
-
-  pub size_found : {m c r : ℕ} → m ≡ unless (size_ok columns rows) 1 → m ≡ 0 → c ≡ length (decimal columns) → r ≡ length (decimal rows)
-      → record { refusal = 0; size = 9 + (c + r) + rows * columns } ≡ size_answer columns rows
-  unfolding size_answer
-  size_found {m} e none p q = rw (← e, none, leaves_new 0 (pgm_length columns rows) 0 refl, pgm_length_lem columns rows, p, q)
+  abbrev size_number : ℕ
+  size_number = unless (size_ok columns rows) 1
 
   -- all of it is small
-  pub size_small : {m c r : ℕ} → m ≡ unless (size_ok columns rows) 1 → m ≡ 0 → c ≡ length (decimal columns) → r ≡ length (decimal rows) → 9 + (c + r) + rows * columns ≤ 16910
-  size_small e none p q =
-      let size = size_accepted columns rows e none in
+  pub size_small : {c r : ℕ} → size_number ≡ 0 → c ≡ length (decimal columns) → r ≡ length (decimal rows) → 9 + (c + r) + rows * columns ≤ 16910
+  size_small none p q =
+      let size = size_accepted columns rows none in
       omega (arith, size.most, size.across.1, size.along.1, count_most columns, count_most rows)
 
-  module _ {size : PgmSize} (e : size ≡ size_answer columns rows) where
-    pub size_number : size.refusal ≡ unless (size_ok columns rows) 1
-    unfolding size_answer
-    size_number = rw e
+  -- a refusal is alone, whatever the size would be
+  pub size-outcome : outcome (size_answer columns rows).refusal (size_answer columns rows).size ≡ outcome size_number (pgm_length columns rows)
+  unfolding size_answer
+  size-outcome = outcome_left size_number (pgm_length columns rows) 0
 
-    pub size_is : size.refusal ≡ 0 → size.size ≡ pgm_length columns rows
-    unfolding size_answer
-    size_is none = rw e (leaves_new _ (pgm_length columns rows) 0 (sym size_number ∙ none))
+  pub size_found : {c r : ℕ} → size_number ≡ 0 → c ≡ length (decimal columns) → r ≡ length (decimal rows)
+      → Ok (9 + (c + r) + rows * columns) ≡ outcome (size_answer columns rows).refusal (size_answer columns rows).size
+  size_found none p q = rw size-outcome (rw (p, q, ← pgm_length_lem columns rows) (accepts _ none))
 
-    module _ (picture room : ℕ) where
-      pub write_size_refused : (size.refusal ≡ 0 → ⊥) → size.refusal ≡ write_refusal columns rows picture room
-      unfolding write_refusal
-      write_size_refused refused = answers_stop _ size_number refused
+  module _ (picture file : List ℕ) where
+    abbrev number : ℕ
+    number = write_refusal columns rows (length picture) (length file)
 
-      module _ (none : size.refusal ≡ 0) where
-        pub write_picture_refused : picture ≢ rows * columns → 5 ≡ write_refusal columns rows picture room
-        unfolding write_refusal
-        write_picture_refused other = answers_fails _ (ne_eqb _ _ other) ∙ answers_skip _ size_number none
+    abbrev pub Answered : Result ℕ Refusal → Type 0
+    Answered result = result ≡ outcome (write_pgm columns rows picture file).answer.refusal (write_pgm columns rows picture file).answer.size
 
-        module _ (same : picture ≡ rows * columns) where
-          after_picture : first (unless (leb (pgm_length columns rows) room) 8 ∷ []) ≡ write_refusal columns rows picture room
-          unfolding write_refusal
-          after_picture = answers_passes 5 _ (eq-eqb _ _ same) ∙ answers_skip _ size_number none
-
-          pub write_room_refused : room < size.size → 8 ≡ write_refusal columns rows picture room
-          write_room_refused short = answers_fails _ (lt-leb _ _ (rw (size_is none) at short)) ∙ after_picture
-
-          pub write_none_refused : size.size ≤ room → 0 ≡ write_refusal columns rows picture room
-          write_none_refused long = sym first_nil ∙ answers_passes 8 _ (le-leb _ _ (rw (size_is none) at long)) ∙ after_picture
-
-  -- ---- what is answered and left
-
-  module _ (picture file : List ℕ) {m : ℕ} (e : m ≡ write_refusal columns rows (length picture) (length file)) where
-    pub nothing_written : (m ≡ 0 → ⊥) → (record { refusal = m; size = 0 } ≡ (write_pgm columns rows picture file).answer) × (file ≡ (write_pgm columns rows picture file).file)
+    -- a refusal touches nothing
+    untouched : (number ≡ 0 → ⊥) → file ≡ (write_pgm columns rows picture file).file
     unfolding write_pgm
-    nothing_written refused =
-        rw (← e) (rw (leaves_kept m (pgm_length columns rows) 0 refused), sym (leaves_kept m (pgm_of columns rows picture ++ drop (pgm_length columns rows) file) file refused))
+    untouched refused = sym (leaves_kept _ _ _ refused)
 
-    pub all_written : {size : PgmSize} {w : List ℕ} → m ≡ 0 → size ≡ size_answer columns rows → w ≡ pgm_of columns rows picture ++ drop (pgm_length columns rows) file
-        → (size ≡ (write_pgm columns rows picture file).answer) × (w ≡ (write_pgm columns rows picture file).file)
-    unfolding size_answer
-    all_written none s p =
-        let is = writing_is columns rows picture file (sym e ∙ none) in
-        let sized = unless_holds (size_ok columns rows) 1 (accepted_writing columns rows (length picture) (length file) (sym e ∙ none)).sized in (
-          s ∙ rw (sized, leaves_new 0 (pgm_length columns rows) 0 refl) (sym (ap (λ (o : WriteOutcome). o.answer) is)),
-          p ∙ sym (ap (λ (o : WriteOutcome). o.file) is),
-        )
+    pub stops : (size_number ≡ 0 → ⊥) → number ≡ size_number
+    unfolding write_refusal
+    stops refused = first_stop _ _ refused
+
+    pub size_untouched : (size_number ≡ 0 → ⊥) → file ≡ (write_pgm columns rows picture file).file
+    size_untouched refused = untouched (rw (← stops refused) at refused)
+
+    refuses_by : {n : ℕ} (r : Refusal) → suc n ≡ number → number_of r ≡ suc n → Answered (Err r) × (file ≡ (write_pgm columns rows picture file).file)
+    unfolding write_pgm
+    refuses_by r e is = (refuses _ r (is ∙ e), untouched (λ z. omega (arith, e, z)))
+
+    module _ (none : size_number ≡ 0) where
+      pub picture_refused : length picture ≢ rows * columns → Answered (Err PictureLength) × (file ≡ (write_pgm columns rows picture file).file)
+      unfolding write_refusal
+      picture_refused other = refuses_by PictureLength (answers_fails {number = 4} _ (ne_eqb _ _ other) ∙ answers_skip _ refl none) refl
+
+      module _ (same : length picture ≡ rows * columns) where
+        after_picture : first (unless (leb (pgm_length columns rows) (length file)) 8 ∷ []) ≡ number
+        unfolding write_refusal
+        after_picture = answers_passes 5 _ (eq-eqb _ _ same) ∙ answers_skip _ refl none
+
+        module _ {size : ℕ} (is : size ≡ pgm_length columns rows) where
+          pub room_refused : length file < size → Answered (Err FileLength) × (file ≡ (write_pgm columns rows picture file).file)
+          room_refused short = refuses_by FileLength (answers_fails {number = 7} _ (lt-leb _ _ (rw is at short)) ∙ after_picture) refl
+
+          pub none_refused : size ≤ length file → number ≡ 0
+          none_refused long = sym (sym first_nil ∙ answers_passes 8 _ (le-leb _ _ (rw is at long)) ∙ after_picture)
+
+          pub written : {w : List ℕ} → size ≤ length file → w ≡ pgm_of columns rows picture ++ drop (pgm_length columns rows) file → Answered (Ok size) × (w ≡ (write_pgm columns rows picture file).file)
+          unfolding outcome
+          written long p = let e = writing_is columns rows picture file (none_refused long) in rw e (ap Ok is, p)

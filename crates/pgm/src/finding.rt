@@ -1,85 +1,97 @@
-// What the header of a file says (document 02, P2), past the end too.
-ghost use Rattle.std.specs.Prelude.{◌≡◌, get_or};
+// What the header of a file says (document 02, P2).
+ghost use Rattle.std.specs.Prelude.{◌≡◌, ◌≤◌, length};
 ghost use Rattle.pgm.specs.Definitions.Header.{is_space, digits_place};
 ghost use Rattle.pgm.specs.Inner.Found.{passed, inside_after, field_at, header_in};
 
-use crate::{Field, Header};
-
-// The byte at a place, and 0 past the end.
-fn byte_at(file: &[u8], at: usize) -> u8
-    ensures { result ≡ get_or file.now at 0 }
-{
-    if at < file.len() {
-        return file[at];
-    }
-    0
+// A number of a header, and where it ends.
+#[derive(Clone, Copy)]
+struct Field {
+    value: u32,
+    end: usize,
 }
 
+// What a header says, and where the pixels start.
+#[derive(Clone, Copy)]
+pub struct Header {
+    pub columns: u32,
+    pub rows: u32,
+    pub greatest: u32,
+    pub pixels: usize,
+}
+
+#[tactic(auto, unfolding(crate::specs::Definitions::Header::is_space))]
 fn is_space(b: u8) -> bool
     ensures { result ≡ is_space b }
 {
-    (b == 32) | (b == 9) | (b == 10) | (b == 13)
+    matches!(b, b' ' | b'\t' | b'\n' | b'\r')
 }
 
+// Whether a byte counts as white space before a number; inside a comment each does.
+#[tactic(auto, unfolding(crate::specs::Inner::Found::passed))]
 fn is_passed(inside: bool, b: u8) -> bool
     ensures { result ≡ passed inside b }
 {
-    if inside {
-        return true;
-    }
-    is_space(b) | (b == 35)
+    inside || is_space(b) || b == b'#'
 }
 
+// Whether the byte after it is inside a comment.
+#[tactic(auto, unfolding(crate::specs::Inner::Found::inside_after))]
 fn is_inside_after(inside: bool, b: u8) -> bool
     ensures { result ≡ inside_after inside b }
 {
-    if inside {
-        return b != 10;
-    }
-    b == 35
+    if inside { b != b'\n' } else { b == b'#' }
 }
 
 // Where the digits of a number start: after white space and comments.
 fn digits_place(file: &[u8], at: usize) -> usize
+    requires { at ≤ length file.now }
     ensures { result ≡ digits_place file.now at }
 {
+    let rest = &file[at..];
     let mut inside = false;
-    let mut i = at;
-    while i < file.len() && is_passed(inside, file[i]) {
-        inside = is_inside_after(inside, file[i]);
-        i += 1;
+    for (i, &b) in rest.iter().enumerate() {
+        if !is_passed(inside, b) {
+            return at + i;
+        }
+        inside = is_inside_after(inside, b);
     }
-    i
+    file.len()
 }
 
 // White space and a number of at most five digits, from a place on.
-fn field(file: &[u8], at: usize) -> Field
+fn find_number(file: &[u8], at: usize) -> Option<Field>
+    requires { at ≤ length file.now }
     ensures { result ≡ field_at file.now at }
 {
     let start = digits_place(file, at);
-    let number = decimals::number_at(file, start, 5);
-    let end = start + number.digits;
-    Field {
-        ok: (at < start) & (start < end),
-        value: number.value,
-        end: end,
+    let number = decimals::number_at(file, start, 5)?;
+    if start == at {
+        return None;
     }
+    Some(Field {
+        value: number.value,
+        end: start + number.digits,
+    })
 }
 
-pub fn header(file: &[u8]) -> Header
+// The header: P5, three numbers with white space before each, and one white space byte.
+pub fn find_header(file: &[u8]) -> Option<Header>
     ensures { result ≡ header_in file.now }
 {
-    let columns = field(file, 2);
-    let rows = field(file, columns.end);
-    let greatest = field(file, rows.end);
-    let first = byte_at(file, 0);
-    let second = byte_at(file, 1);
-    let space = is_space(byte_at(file, greatest.end));
-    Header {
-        ok: (first == 80) & (second == 53) & columns.ok & rows.ok & greatest.ok & space,
+    if !file.starts_with(b"P5") {
+        return None;
+    }
+    let columns = find_number(file, 2)?;
+    let rows = find_number(file, columns.end)?;
+    let greatest = find_number(file, rows.end)?;
+    let last = *file.get(greatest.end)?;
+    if !is_space(last) {
+        return None;
+    }
+    Some(Header {
         columns: columns.value,
         rows: rows.value,
         greatest: greatest.value,
         pixels: greatest.end + 1,
-    }
+    })
 }

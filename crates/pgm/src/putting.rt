@@ -1,20 +1,16 @@
 // A file in its single form, into the writer's buffer (document 02, P2).
-ghost use Rattle.std.specs.Prelude.{◌≡◌, [], ◌∷◌, ◌++◌, ◌+◌, ◌≤◌, ◌<◌, length, drop};
+ghost use Rattle.std.specs.Prelude.{◌≡◌, ◌++◌, ◌+◌, ◌≤◌, length, drop};
 ghost use Rattle.mathematics.specs.Inner.Splices.{splice};
 ghost use Rattle.decimals.specs.Definitions.Text.{decimal};
 ghost use Rattle.pgm.specs.Definitions.Files.{number_then, header_of, pgm_of, pgm_length};
 ghost use Rattle.pgm.specs.Definitions.Calls.{write_refusal};
 
-use crate::copying;
-
-// P5 and newline.
-fn put_name(file: &mut [u8])
-    requires { 3 ≤ length file.old }
-    ensures { file.new ≡ splice 0 (80 ∷ 53 ∷ 10 ∷ []) file.old }
+// Bytes from a place on.
+fn put(bytes: &[u8], file: &mut [u8], at: usize)
+    requires { at + length bytes.now ≤ length file.old }
+    ensures { file.new ≡ splice at bytes.now file.old }
 {
-    file[0] = 80;
-    file[1] = 53;
-    file[2] = 10;
+    file[at..at + bytes.len()].copy_from_slice(bytes);
 }
 
 // A number and the white space byte after it, and the place after these.
@@ -23,20 +19,9 @@ fn put_number(n: u16, space: u8, file: &mut [u8], at: usize) -> usize
     ensures value { result ≡ at + (length (decimal n) + 1) }
     ensures file_after { file.new ≡ splice at (number_then n space) file.old }
 {
-    let end = at + decimals::put_decimal(n as u32, file, at);
+    let end = at + decimals::put_decimal(n as u32, file, at).unwrap();
     file[end] = space;
     end + 1
-}
-
-// 255, the greatest grey, and newline.
-fn put_greatest(file: &mut [u8], at: usize)
-    requires { at + 4 ≤ length file.old }
-    ensures { file.new ≡ splice at (number_then 255 10) file.old }
-{
-    file[at] = 50;
-    file[at + 1] = 53;
-    file[at + 2] = 53;
-    file[at + 3] = 10;
 }
 
 // The header, and the place of the pixels.
@@ -45,10 +30,10 @@ fn put_header(columns: u16, rows: u16, file: &mut [u8]) -> usize
     ensures value { result ≡ length (header_of columns rows) }
     ensures file_after { file.new ≡ splice 0 (header_of columns rows) file.old }
 {
-    put_name(file);
-    let second = put_number(columns, 32, file, 3);
-    let third = put_number(rows, 10, file, second);
-    put_greatest(file, third);
+    put(b"P5\n", file, 0);
+    let second = put_number(columns, b' ', file, 3);
+    let third = put_number(rows, b'\n', file, second);
+    put(b"255\n", file, third);
     third + 4
 }
 
@@ -59,5 +44,5 @@ pub fn put_pgm(columns: u16, rows: u16, picture: &[u8], file: &mut [u8])
         pgm_of columns rows picture.now ++ drop (pgm_length columns rows) file.old }
 {
     let pixels = put_header(columns, rows, file);
-    copying::copy(picture, file, pixels);
+    put(picture, file, pixels);
 }

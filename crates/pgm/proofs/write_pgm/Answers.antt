@@ -1,27 +1,40 @@
--- `pgm::write_pgm` meets its contract. Assumes nothing.
+-- `pgm::write_pgm` meets its contract: refused, nothing is touched; accepted, the file is put. Assumes nothing.
 use mathlib.Core.Path.{sym, ◌∙◌}
-use Rattle.pgm.proofs.Writings.{nothing_written, all_written}
+use Rattle.refusals.proofs.Outcomes.{none, some, value-is, passed_on}
+use Rattle.pgm.specs.Definitions.Calls.{write_pgm}
+use Rattle.pgm.proofs.Writings.{size-outcome, stops, size_untouched, picture_refused, room_refused, none_refused, written}
 use Rattle.pgm.proofs.write_pgm.Goals as goal
 
-pub returns-then-refusal-ne0 : goal.returns-then-refusal-ne0
-returns-then-refusal-ne0 c =
-    let k = c.before in
-    let a = k.args in
+pub returns-in_err-size : goal.returns-in_err-size
+unfolding write_pgm
+returns-in_err-size c =
+    let file = c.args.file.now in
+    let picture = c.args.picture.now in
+    let e = c.in_err-size.ensures ∙ size-outcome _ _ in
     record {
-      value = (nothing_written a.columns a.rows a.picture.now a.file.now k.write_refusal-refusal.ensures c.if-refusal-ne0.true).0;
-      file_after = (nothing_written a.columns a.rows a.picture.now a.file.now k.write_refusal-refusal.ensures c.if-refusal-ne0.true).1;
+      value = passed_on _ _ _ c.from_residual.result _ c.from_residual.ensures.1 e (stops _ _ picture file);
+      file_after = size_untouched _ _ picture file (some _ _ (sym e));
     }
 
+pub returns-then-picture-rows : goal.returns-then-picture-rows
+returns-then-picture-rows c =
+    let e = sym (c.in_ok-size.ensures ∙ size-outcome _ _) in
+    let refused = picture_refused _ _ c.args.picture.now c.args.file.now (none _ _ e) c.if-picture-rows.true in
+    record { value = refused.0; file_after = refused.1 }
+
+pub returns-then-file-size : goal.returns-then-file-size
+returns-then-file-size c =
+    let e = sym (c.in_ok-size.ensures ∙ size-outcome _ _) in
+    let refused = room_refused _ _ c.args.picture.now c.args.file.now (none _ _ e) c.if-picture-rows.false (value-is _ _ e) c.if-file-size.true in
+    record { value = refused.0; file_after = refused.1 }
+
 pub put_pgm-requires : goal.put_pgm-requires
-put_pgm-requires c = sym c.write_refusal-refusal.ensures ∙ c.if-refusal-ne0.false
+put_pgm-requires c =
+    let e = sym (c.in_ok-size.ensures ∙ size-outcome _ _) in
+    none_refused _ _ c.args.picture.now c.args.file.now (none _ _ e) c.if-picture-rows.false (value-is _ _ e) c.if-file-size.false
 
 pub returns : goal.returns
 returns c =
-    let p = c.before.before in
-    let e = p.before.before in
-    let k = e.before in
-    let a = k.args in
-    record {
-      value = (all_written a.columns a.rows a.picture.now a.file.now k.write_refusal-refusal.ensures e.if-refusal-ne0.false k.before.size_of-size.ensures p.put_pgm.ensures).0;
-      file_after = (all_written a.columns a.rows a.picture.now a.file.now k.write_refusal-refusal.ensures e.if-refusal-ne0.false k.before.size_of-size.ensures p.put_pgm.ensures).1;
-    }
+    let e = sym (c.in_ok-size.ensures ∙ size-outcome _ _) in
+    let written = written _ _ c.args.picture.now c.args.file.now (none _ _ e) c.if-picture-rows.false (value-is _ _ e) c.if-file-size.false c.put_pgm.ensures in
+    record { value = written.0; file_after = written.1 }

@@ -1,7 +1,8 @@
 -- What is found in a header, as the code holds it; and how a comment is followed byte by byte. Assumes nothing.
-use Rattle.std.specs.Prelude.{Bool, true, not, cond, ◌||◌, List, ℕ, eqb}
-use Rattle.pgm.specs.declared.Field.{Field}
-use Rattle.pgm.specs.declared.Header.{Header}
+use Rattle.std.specs.Prelude.{Bool, true, not, cond, ◌||◌, List, ℕ, eqb, Option, Some, None}
+use Rattle.pgm.specs.declared.finding.Field.{Field}
+use Rattle.pgm.specs.declared.finding.Header.{Header}
+use Rattle.pgm.specs.declared.checking.Picture.{Picture}
 use Rattle.pgm.specs.Definitions.Header.{is_space, number_in, number_end, number_ok, header_ok, columns_in, rows_in, greatest_in, pixels_place}
 
 -- a byte counts as white space before a number, and the next byte is inside a comment
@@ -12,15 +13,15 @@ unfoldable pub inside_after : Bool → ℕ → Bool
 inside_after inside b = cond inside (not (eqb b 10)) (eqb b 35)
 
 module _ (bytes : List ℕ) where
-  unfoldable pub field_at : ℕ → Field
-  field_at at = record { ok = number_ok bytes at; value = number_in bytes at; end = number_end bytes at }
+  unfoldable pub field_at : ℕ → Option Field
+  field_at at = cond (number_ok bytes at) (Some (record { value = number_in bytes at; end = number_end bytes at })) None
 
-  unfoldable pub header_in : Header
+  unfoldable pub header_in : Option Header
   header_in =
-      record {
-        ok = header_ok bytes;
-        columns = columns_in bytes;
-        rows = rows_in bytes;
-        greatest = greatest_in bytes;
-        pixels = pixels_place bytes;
-      }
+      cond (header_ok bytes)
+      (Some (record { columns = columns_in bytes; rows = rows_in bytes; greatest = greatest_in bytes; pixels = pixels_place bytes }))
+      None
+
+  -- of a file that is accepted
+  unfoldable pub picture_in : Picture
+  picture_in = record { size = record { columns = columns_in bytes; rows = rows_in bytes }; pixels = pixels_place bytes }

@@ -1,21 +1,37 @@
--- `pgm::checking::accepted` meets its contract. Assumes nothing.
+-- `pgm::checking::accepted` meets its contract: rule by rule. Assumes nothing.
+use mathlib.Core.Path.{◌≡◌, sym, ap}
+use Prim.Native.Nat.{◌*◌}
 use borrow.Author.Rules.{rules}
-use Rattle.pgm.proofs.Answers.{found_size, found_answer}
+use Rattle.refusals.proofs.Outcomes.{none, value-is, passed_on}
+use Rattle.pgm.specs.declared.PictureSize.{PictureSize}
+use Rattle.pgm.proofs.Answers.{no_header, bad_size, whole_within, bad_grey, bad_pixels, all_good}
 use Rattle.pgm.proofs.checking.accepted.Goals as goal
 
-pub overflow_cast-result : goal.overflow_cast-result
-overflow_cast-result c =
-    let d = c.before in
-    let size = found_size d.args.file.now d.requires.header_value d.requires.file_value in
-    search (rules, size.across.1)
+pub returns-in_default : goal.returns-in_default
+returns-in_default c = no_header _ _ c.in_default.ensures
 
-pub overflow_cast-result-2 : goal.overflow_cast-result-2
-overflow_cast-result-2 c =
-    let d = c.before.before in
-    let size = found_size d.args.file.now d.requires.header_value d.requires.file_value in
-    search (rules, size.along.1)
+pub returns-in_err-size : goal.returns-in_err-size
+returns-in_err-size c = passed_on _ _ _ c.from_residual.result _ c.from_residual.ensures.1 c.in_err-size.ensures (bad_size _ c.in-Some.ensures)
+
+pub returns-then-header-ne255 : goal.returns-then-header-ne255
+returns-then-header-ne255 c = bad_grey _ c.in-Some.ensures (none _ _ (sym c.in_ok-size.ensures)) _ c.if-header-ne255.true
+
+-- columns times rows
+long : {c h : PictureSize} → c ≡ h → c.rows * c.columns ≡ h.rows * h.columns
+long e = ap (λ (s : PictureSize). s.rows * s.columns) e
+
+pub overflow_add-header : goal.overflow_add-header
+overflow_add-header c =
+    let e = sym c.in_ok-size.ensures in
+    search (rules, whole_within _ c.in-Some.ensures (none _ _ e) (long (value-is _ _ e)))
+
+pub returns-then-file-header : goal.returns-then-file-header
+returns-then-file-header c =
+    let e = sym c.in_ok-size.ensures in
+    bad_pixels _ c.in-Some.ensures (none _ _ e) c.if-header-ne255.false (long (value-is _ _ e)) _ c.if-file-header.true
 
 pub returns : goal.returns
 returns c =
-    let d = c.before.before in
-    found_answer d.args.file.now d.requires.header_value
+    let e = sym c.in_ok-size.ensures in
+    let good = all_good _ c.in-Some.ensures (none _ _ e) c.if-header-ne255.false (long (value-is _ _ e)) c.if-file-header.false in
+    rw (value-is _ _ e) good

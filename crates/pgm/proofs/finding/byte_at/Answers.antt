@@ -1,7 +1,0 @@
--- `pgm::finding::byte_at` meets its contract. Assumes nothing.
-use mathlib.Core.Path.{sym}
-use lib.ListN.{get_or-eq_default}
-use Rattle.pgm.proofs.finding.byte_at.Goals as goal
-
-pub returns : goal.returns
-returns c = sym (get_or-eq_default c.args.file.now 0 c.if-at-file.false)
