@@ -1,9 +1,9 @@
 // What a reader is to answer, and how its answer differs.
-use crate::parts;
+use crate::parts::{Finding, Part, compared};
 use bale::{Bale, Reading};
 use pyramid::Settings;
-use test_support::reporting::{Finding, difference};
-use test_support::{comparing, decoding, reporting};
+use test_support::comparing::first_difference;
+use test_support::decoding;
 
 // The kind and the number of a reading.
 #[derive(Clone, Copy)]
@@ -11,6 +11,9 @@ pub(crate) struct Held {
     pub kind: u8,
     pub number: u32,
 }
+
+// What a reading that is not fitted holds.
+pub(crate) const NOT_FITTED: Held = Held { kind: 0, number: 0 };
 
 // A refusal, or settings and two readings.
 #[derive(Clone, Copy)]
@@ -23,9 +26,8 @@ pub(crate) struct Expected {
 
 // A refusal holds 0 in the numbers and not fitted in the readings.
 pub(crate) fn refused(refusal: u16) -> Expected {
-    let none = Held { kind: 0, number: 0 };
     Expected {
-        refusal: refusal,
+        refusal,
         settings: Settings {
             columns: 0,
             rows: 0,
@@ -33,16 +35,17 @@ pub(crate) fn refused(refusal: u16) -> Expected {
             kernel: 0,
             bins: [0; 7],
         },
-        before_drier: none,
-        at_press: none,
+        before_drier: NOT_FITTED,
+        at_press: NOT_FITTED,
     }
 }
 
 // A reading in five bytes: its kind and its number.
 fn held_at(said: &[u8], at: u16) -> Held {
+    let at = usize::from(at);
     Held {
-        kind: (decoding::unsigned16_at(said, at as usize) % 256) as u8,
-        number: decoding::unsigned32_at(said, at as usize + 1),
+        kind: decoding::byte_at(said, at),
+        number: decoding::unsigned32_at(said, at + 1),
     }
 }
 
@@ -64,27 +67,12 @@ pub(crate) fn said_by(refusal: u16, said: &[u8]) -> Expected {
     refused(refusal)
 }
 
-// The first of the eleven settings that differs, C, R, N, k and then the bins; or 11.
-fn compare_settings(a: Settings, b: Settings) -> usize {
-    if a.columns != b.columns {
-        return 0;
-    }
-    if a.rows != b.rows {
-        return 1;
-    }
-    if a.depth != b.depth {
-        return 2;
-    }
-    if a.kernel != b.kernel {
-        return 3;
-    }
-    let first = a.bins;
-    let second = b.bins;
-    let slot = comparing::slots(first, second);
-    if slot < 7 {
-        return 4 + slot;
-    }
-    11
+// C, R, N, k and then the bins.
+fn numbers(s: Settings) -> [u16; 11] {
+    let b = s.bins;
+    [
+        s.columns, s.rows, s.depth, s.kernel, b[0], b[1], b[2], b[3], b[4], b[5], b[6],
+    ]
 }
 
 // A float that is at most 100 is no NaN, and has bits.
@@ -105,31 +93,22 @@ pub(crate) fn is_held(reading: Reading, held: Held) -> bool {
 }
 
 // Reading 0 before the drier, reading 1 at the press.
-fn compare_readings(b: Bale, e: Expected) -> Finding {
+fn compare_readings(b: Bale, e: Expected) -> Option<Finding> {
     let note = b.note;
-    let drier = note.before_drier;
-    let first = e.before_drier;
-    if !is_held(drier, first) {
-        return difference(parts::READING_HELD, 0);
+    if !is_held(note.before_drier, e.before_drier) {
+        return Some(Finding::of_part(Part::ReadingHeld, 0));
     }
-    let press = note.at_press;
-    let second = e.at_press;
-    if !is_held(press, second) {
-        return difference(parts::READING_HELD, 1);
+    if !is_held(note.at_press, e.at_press) {
+        return Some(Finding::of_part(Part::ReadingHeld, 1));
     }
-    difference(reporting::AGREES, 0)
+    None
 }
 
 // The first difference: the refusal, a setting, a reading.
-pub(crate) fn compare(b: Bale, e: Expected) -> Finding {
+pub(crate) fn compare(b: Bale, e: Expected) -> Option<Finding> {
     if b.refusal != e.refusal {
-        return difference(parts::REFUSAL, b.refusal as usize);
+        return Some(Finding::of_part(Part::Refusal, usize::from(b.refusal)));
     }
-    let got = b.settings;
-    let expected = e.settings;
-    let setting = compare_settings(got, expected);
-    if setting < 11 {
-        return difference(parts::SETTING, setting);
-    }
-    compare_readings(b, e)
+    let setting = first_difference(&numbers(b.settings), &numbers(e.settings), 11);
+    compared(Part::Setting, setting).or(compare_readings(b, e))
 }

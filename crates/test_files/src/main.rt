@@ -12,21 +12,28 @@ mod reading;
 mod singles;
 mod writers;
 
+use parts::Finding;
 use std::{fs, io};
+use test_support::reporting;
+use test_support::reporting::Tally;
+
+// Writes the line of a group.
+fn print(rt: &HostRuntime, group: &str, t: Tally<Finding>) -> io::Result<()> {
+    reporting::print_cases(&mut rt.stdout(), group, &t)?;
+    Ok(())
+}
 
 // Runs the cases of the vectors and writes their line.
 fn report(rt: &HostRuntime, path: &str) -> io::Result<()> {
     let Ok(mut data) = fs::open(rt, path) else {
         return println!(rt; "{path}: cannot be opened");
     };
-    let tally = cases::check_all(&mut data)?;
-    parts::print(&mut rt.stdout(), path, tally)
+    print(rt, path, cases::check_all(&mut data)?)
 }
 
 fn main(rt: HostRuntime) -> io::Result<()> {
     report(&rt, "files.bin")?;
-    let mut out = rt.stdout();
-    parts::print(&mut out, "sets of faults, writing", faults::check_all())?;
-    parts::print(&mut out, "single readings, writing", singles::check_all())?;
-    parts::print(&mut out, "readings and their codes", codes::check_all())
+    print(&rt, "sets of faults, writing", faults::check_all())?;
+    print(&rt, "single readings, writing", singles::check_all())?;
+    print(&rt, "readings and their codes", codes::check_all())
 }

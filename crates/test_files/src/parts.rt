@@ -1,61 +1,86 @@
-// The calls that a case makes, and the parts of what a call answers and leaves, after those that every program has.
-use std::io;
-use std::io::Write;
+// The calls that a case makes, and the parts of what a call answers and leaves.
+use std::fmt;
 use test_support::reporting;
-use test_support::reporting::Tally;
+use test_support::reporting::Spot;
+use test_support::rooms::Room;
 
 // The largest file that is accepted has 44,770 bytes and 22,359 nodes.
 pub(crate) const MOST_BYTES: usize = 44770;
 
 pub(crate) const MOST_PLACES: usize = 22360;
 
-pub(crate) const CHECKING: u16 = 1;
+#[derive(Clone, Copy)]
+pub(crate) enum Call {
+    Checking,
+    Reading(Room),
+    Sizing,
+    Writing(Room),
+    Coding,
+    Decoding,
+}
 
-pub(crate) const READING: u16 = 2;
+impl fmt::Display for Call {
+    fn fmt<W: fmt::Write>(&self, f: &mut fmt::Formatter<W>) -> fmt::Result {
+        f.write_str(match *self {
+            Call::Checking => "check_file",
+            Call::Reading(Room::Exact) => "read_file",
+            Call::Reading(Room::Longer) => "read_file with a place more",
+            Call::Reading(Room::Shorter) => "read_file with a place fewer",
+            Call::Sizing => "file_size",
+            Call::Writing(Room::Exact) => "write_file",
+            Call::Writing(Room::Longer) => "write_file with bytes more",
+            Call::Writing(Room::Shorter) => "write_file with a byte fewer",
+            Call::Coding => "reading_code",
+            Call::Decoding => "coded_reading",
+        })
+    }
+}
 
-pub(crate) const READING_LONGER: u16 = 3;
+// For a refusal, a size or a code's kind, the place is the one that was answered.
+#[derive(Clone, Copy)]
+pub(crate) enum Part {
+    EndOfVectors,
+    Refusal,
+    Setting,
+    ReadingHeld,
+    Index,
+    KeptIndex,
+    Size,
+    Byte,
+    KeptByte,
+    Code,
+}
 
-pub(crate) const READING_SHORTER: u16 = 4;
+impl fmt::Display for Part {
+    fn fmt<W: fmt::Write>(&self, f: &mut fmt::Formatter<W>) -> fmt::Result {
+        f.write_str(match *self {
+            Part::EndOfVectors => "end of the vectors",
+            Part::Refusal => "refusal",
+            Part::Setting => "setting",
+            Part::ReadingHeld => "reading",
+            Part::Index => "index",
+            Part::KeptIndex => "index to be kept",
+            Part::Size => "size",
+            Part::Byte => "byte",
+            Part::KeptByte => "byte to be kept",
+            Part::Code => "code",
+        })
+    }
+}
 
-pub(crate) const SIZING: u16 = 5;
+pub(crate) type Finding = reporting::Finding<Spot<Call, Part>>;
 
-pub(crate) const WRITING: u16 = 6;
+// A part that differs at a place, where there is one.
+pub(crate) fn compared(part: Part, place: Option<usize>) -> Option<Finding> {
+    place.map(|place| Finding::of_part(part, place))
+}
 
-pub(crate) const WRITING_LONGER: u16 = 7;
+// A case that is cut, unless all of it was read.
+pub(crate) fn cut_unless(is_read: bool) -> Option<Finding> {
+    (!is_read).then_some(Finding::of_part(Part::EndOfVectors, 0))
+}
 
-pub(crate) const WRITING_SHORTER: u16 = 8;
-
-pub(crate) const CODING: u16 = 9;
-
-pub(crate) const DECODING: u16 = 10;
-
-pub(crate) const REFUSAL: u16 = 3;
-
-pub(crate) const SETTING: u16 = 4;
-
-pub(crate) const READING_HELD: u16 = 5;
-
-pub(crate) const INDEX: u16 = 6;
-
-pub(crate) const KEPT_INDEX: u16 = 7;
-
-pub(crate) const SIZE: u16 = 8;
-
-pub(crate) const BYTE: u16 = 9;
-
-pub(crate) const KEPT_BYTE: u16 = 10;
-
-pub(crate) const CODE: u16 = 11;
-
-// Writes the line of a group of cases, and where its first mismatch is: for a refusal, a size or a
-// code's kind, the one that was answered.
-pub(crate) fn print<W: Write>(out: &mut W, group: &str, t: Tally) -> io::Result<()> {
-    reporting::print_cases(
-        out,
-        group.as_bytes(),
-        t,
-        b"|check_file, |read_file, |read_file with a place more, |read_file with a place fewer, |file_size, |write_file, |write_file with bytes more, |write_file with a byte fewer, |reading_code, |coded_reading, |",
-        b"||end of the vectors|refusal|setting|reading|index|index to be kept|size|byte|byte to be kept|code|",
-    )?;
-    Ok(())
+// The same finding, of a call.
+pub(crate) fn of_call(call: Call, found: Option<Finding>) -> Option<Finding> {
+    found.map(|f| f.of_call(call))
 }

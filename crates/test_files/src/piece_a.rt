@@ -20,8 +20,8 @@ pub(crate) const LEVELS: [i16; 14] = [6, 6, 6, 6, -3, -3, -3, -3, 7, -3, -3, -3,
 
 pub(crate) fn note(before_drier: Reading, at_press: Reading) -> Note {
     Note {
-        before_drier: before_drier,
-        at_press: at_press,
+        before_drier,
+        at_press,
     }
 }
 

@@ -1,70 +1,48 @@
 // The two readers over a case's file.
-ghost use Rattle.std.specs.Prelude.{◌≤◌};
-
+use crate::answers;
 use crate::answers::Expected;
-use crate::parts::MOST_PLACES;
-use crate::{answers, parts};
-use test_support::comparing::least;
-use test_support::reporting::{Finding, compared, either, of_call};
-use test_support::{comparing, fillers};
-
-// As many places as the file has nodes, or some where its shape is refused.
-fn places(nodes: u16) -> usize
-    ensures { (1 ≤ result) × (result ≤ 65535) }
-{
-    if nodes == 0 {
-        return 13;
-    }
-    nodes as usize
-}
+use crate::parts::{Call, Finding, MOST_PLACES, Part, compared, of_call};
+use test_support::comparing::indices;
+use test_support::fillers::{fill, first_changed, index_filler};
+use test_support::rooms::Room;
 
 // The reader that is lent no level buffer.
-pub(crate) fn check_checking(e: Expected, file: &[u8]) -> Finding {
+pub(crate) fn check_checking(e: Expected, file: &[u8]) -> Option<Finding> {
     let b = bale::check_file(file);
-    of_call(parts::CHECKING, answers::compare(b, e))
+    of_call(Call::Checking, answers::compare(b, e))
 }
 
 // What a reader leaves in the level buffer: an accepted file its indices, a refused one nothing.
-fn compare_levels(refusal: u16, indices: &[u8], levels: &[i16]) -> Finding {
-    let n = levels.len();
+fn compare_levels(refusal: u16, said: &[u8], levels: &[i16]) -> Option<Finding> {
     if refusal == 0 {
-        return compared(parts::INDEX, comparing::indices(indices, levels, n), n);
+        return compared(Part::Index, indices(said, levels, levels.len()));
     }
-    compared(
-        parts::KEPT_INDEX,
-        fillers::first_changed_index(levels, false),
-        n,
-    )
+    let kept = first_changed(levels, 0, |i| index_filler(false, i));
+    compared(Part::KeptIndex, kept)
 }
 
 // The reader that is lent a filled level buffer.
-fn check_reading(e: Expected, file: &[u8], indices: &[u8], levels: &mut [i16]) -> Finding {
-    fillers::fill_indices(levels, false);
+fn check_reading(e: Expected, file: &[u8], indices: &[u8], levels: &mut [i16]) -> Option<Finding> {
+    fill(levels, |i| index_filler(false, i));
     let b = bale::read_file(file, levels);
-    let left = compare_levels(e.refusal, indices, levels);
-    either(answers::compare(b, e), left)
+    answers::compare(b, e).or(compare_levels(e.refusal, indices, levels))
 }
 
-// The same with n places.
-fn check_places(call: u16, e: Expected, file: &[u8], indices: &[u8], n: usize) -> Finding {
+// The same with as many places as the file has nodes, or some where its shape is refused; or one more or fewer.
+fn check_room(room: Room, e: Expected, nodes: u16, file: &[u8], indices: &[u8]) -> Option<Finding> {
     let mut levels: [i16; MOST_PLACES] = [0; MOST_PLACES];
-    let places = least(n, MOST_PLACES);
-    of_call(
-        call,
-        check_reading(e, file, indices, &mut levels[0..places]),
-    )
+    let needed = if nodes == 0 { 13 } else { usize::from(nodes) };
+    let places = room.places(needed, 1).min(MOST_PLACES);
+    let found = check_reading(e, file, indices, &mut levels[..places]);
+    of_call(Call::Reading(room), found)
 }
 
 // With the places that the file needs, and with one place more and one fewer: 6 where the shape is accepted.
-pub(crate) fn check_lent(e: Expected, nodes: u16, file: &[u8], indices: &[u8]) -> Finding {
-    let mut refusal = e.refusal;
-    if nodes != 0 {
-        refusal = 6;
-    }
+pub(crate) fn check_lent(e: Expected, nodes: u16, file: &[u8], indices: &[u8]) -> Option<Finding> {
+    let refusal = if nodes != 0 { 6 } else { e.refusal };
     let other = answers::refused(refusal);
-    let n = places(nodes);
-    let longer = check_places(parts::READING_LONGER, other, file, indices, n + 1);
-    let shorter = check_places(parts::READING_SHORTER, other, file, indices, n - 1);
-    let exact = check_places(parts::READING, e, file, indices, n);
-    either(longer, either(shorter, exact))
+    let longer = check_room(Room::Longer, other, nodes, file, indices);
+    let shorter = check_room(Room::Shorter, other, nodes, file, indices);
+    let exact = check_room(Room::Exact, e, nodes, file, indices);
+    longer.or(shorter).or(exact)
 }

@@ -1,7 +1,8 @@
 // Reads cases from the vectors.
 use std::io;
 use std::io::Read;
-use test_support::{decoding, reading};
+use test_support::decoding;
+use test_support::reading::read_exactly;
 
 // How a case starts: the answer of the reader that is lent no level buffer; T, or 0 where the shape is refused; the file's length.
 #[derive(Clone, Copy)]
@@ -29,8 +30,5 @@ pub(crate) fn read_said<R: Read>(
     if h.refusal != 0 {
         return Ok(true);
     }
-    if reading::read_exactly(data, said, 32)? {
-        return reading::read_exactly(data, indices, 2 * h.nodes as usize);
-    }
-    Ok(false)
+    Ok(read_exactly(data, said, 32)? && read_exactly(data, indices, 2 * usize::from(h.nodes))?)
 }

@@ -1,10 +1,11 @@
 // Single readings that a caller may hand to the writer, before the drier and at the press.
-ghost use Rattle.std.specs.Prelude.{◌≡◌, ◌≤◌, length};
+ghost use Rattle.std.specs.Prelude.{◌≡◌, length};
 
+use crate::parts::Finding;
+use crate::writers::Written;
 use crate::{piece_a, writers};
 use bale::{Note, Reading};
-use test_support::reporting;
-use test_support::reporting::{Finding, Tally};
+use test_support::reporting::Tally;
 
 // A reading; and its kind and number in the file, or refusal 4.
 #[derive(Clone, Copy)]
@@ -17,16 +18,16 @@ pub(crate) struct Trial {
 
 fn lawful(reading: Reading, kind: u8, number: u32) -> Trial {
     Trial {
-        reading: reading,
+        reading,
         refusal: 0,
-        kind: kind,
-        number: number,
+        kind,
+        number,
     }
 }
 
 fn unlawful(reading: Reading) -> Trial {
     Trial {
-        reading: reading,
+        reading,
         refusal: 4,
         kind: 0,
         number: 0,
@@ -38,43 +39,30 @@ fn above_100() -> f32 {
     f32::from_bits(0x42C8_0001)
 }
 
-// 100, the floats next to it, both zeros, both ends of the subnormals, the largest float, negatives, both infinities, a NaN.
-fn percentages(i: u32) -> Trial {
-    match i {
-        0 => lawful(Reading::Percentage(100.0), 1, 0x42C8_0000),
-        1 => lawful(Reading::Percentage(99.99999), 1, 0x42C7_FFFF),
-        2 => unlawful(Reading::Percentage(above_100())),
-        3 => lawful(Reading::Percentage(0.0), 1, 0),
-        4 => unlawful(Reading::Percentage(-0.0)),
-        5 => lawful(Reading::Percentage(1.0e-45), 1, 1),
-        6 => lawful(Reading::Percentage(1.1754942e-38), 1, 0x007F_FFFF),
-        7 => unlawful(Reading::Percentage(3.4028235e38)),
-        8 => unlawful(Reading::Percentage(-6.5)),
-        9 => unlawful(Reading::Percentage(-1.0e-40)),
-        10 => unlawful(Reading::Percentage(1.0 / 0.0)),
-        11 => unlawful(Reading::Percentage(-1.0 / 0.0)),
-        _ => unlawful(Reading::Percentage(0.0 / 0.0)),
-    }
-}
-
-// The other kinds.
-fn codes(i: u32) -> Trial {
-    match i {
-        13 => lawful(Reading::NotFitted, 0, 0),
-        14 => lawful(Reading::Fault(1), 2, 1),
-        15 => lawful(Reading::Fault(255), 2, 255),
-        16 => unlawful(Reading::Fault(0)),
-        17 => unlawful(Reading::Fault(256)),
-        _ => unlawful(Reading::Fault(4294967295)),
-    }
-}
-
-// The 19 readings.
-pub(crate) fn single(i: u32) -> Trial {
-    if i < 13 {
-        return percentages(i);
-    }
-    codes(i)
+// 100, the floats next to it, both zeros, both ends of the subnormals, the largest float, negatives, both infinities, a NaN; then
+// the other kinds.
+pub(crate) fn trials() -> [Trial; 19] {
+    [
+        lawful(Reading::Percentage(100.0), 1, 0x42C8_0000),
+        lawful(Reading::Percentage(99.99999), 1, 0x42C7_FFFF),
+        unlawful(Reading::Percentage(above_100())),
+        lawful(Reading::Percentage(0.0), 1, 0),
+        unlawful(Reading::Percentage(-0.0)),
+        lawful(Reading::Percentage(1.0e-45), 1, 1),
+        lawful(Reading::Percentage(1.1754942e-38), 1, 0x007F_FFFF),
+        unlawful(Reading::Percentage(3.4028235e38)),
+        unlawful(Reading::Percentage(-6.5)),
+        unlawful(Reading::Percentage(-1.0e-40)),
+        unlawful(Reading::Percentage(1.0 / 0.0)),
+        unlawful(Reading::Percentage(-1.0 / 0.0)),
+        unlawful(Reading::Percentage(0.0 / 0.0)),
+        lawful(Reading::NotFitted, 0, 0),
+        lawful(Reading::Fault(1), 2, 1),
+        lawful(Reading::Fault(255), 2, 255),
+        unlawful(Reading::Fault(0)),
+        unlawful(Reading::Fault(256)),
+        unlawful(Reading::Fault(4294967295)),
+    ]
 }
 
 // Piece A's note with the reading before the drier, or at the press.
@@ -85,49 +73,34 @@ fn note(reading: Reading, is_press: bool) -> Note {
     piece_a::note(reading, piece_a::at_press())
 }
 
-// Where that reading starts in the file.
-fn place(is_press: bool) -> usize
-    ensures { result ≤ 23 }
-{
-    if is_press { 23 } else { 18 }
-}
-
-// Piece A's file with the kind and the number of that reading.
+// Piece A's file with the kind and the number of that reading, which starts at byte 18 or 23.
 fn file(kind: u8, number: u32, is_press: bool) -> [u8; 58]
     ensures { 58 ≡ length result }
 {
-    let at = place(is_press);
+    let at = if is_press { 23 } else { 18 };
     let mut file = piece_a::file();
     file[at] = kind;
-    file[at + 1] = (number % 256) as u8;
-    file[at + 2] = (number / 256 % 256) as u8;
-    file[at + 3] = (number / 65536 % 256) as u8;
-    file[at + 4] = (number / 16777216 % 256) as u8;
+    file[at + 1..at + 5].copy_from_slice(&number.to_le_bytes());
     file
 }
 
-fn check_single(x: Trial, is_press: bool) -> Finding {
-    let reading = x.reading;
-    let note = note(reading, is_press);
-    let levels = piece_a::LEVELS;
-    let file = file(x.kind, x.number, is_press);
+fn check_trial(x: Trial, is_press: bool) -> Option<Finding> {
     let mut out: [u8; 64] = [0; 64];
-    writers::check_writing(
-        x.refusal,
-        piece_a::SETTINGS,
-        note,
-        &levels[0..13],
-        &file,
-        &mut out,
-    )
+    let written = Written {
+        settings: piece_a::SETTINGS,
+        note: note(x.reading, is_press),
+        levels: &piece_a::LEVELS[..13],
+        file: &file(x.kind, x.number, is_press),
+    };
+    writers::check_writing(x.refusal, written, &mut out)
 }
 
-pub(crate) fn check_all() -> Tally {
-    let mut tally = reporting::empty();
-    let mut i: u32 = 0;
-    while i < 38 {
-        tally = reporting::counted(tally, check_single(single(i / 2), i % 2 == 1));
-        i += 1;
+pub(crate) fn check_all() -> Tally<Finding> {
+    let mut tally = Tally::new();
+    for x in trials() {
+        for is_press in [false, true] {
+            tally.count(check_trial(x, is_press));
+        }
     }
     tally
 }

@@ -1,114 +1,92 @@
 // The writer over what a file was read to hold.
-ghost use Rattle.std.specs.Prelude.{◌≤◌};
-
-use crate::parts;
-use crate::parts::MOST_PLACES;
+use crate::parts::{Call, Finding, MOST_BYTES, MOST_PLACES, Part, compared, of_call};
 use bale::{FileSize, Note};
 use pyramid::Settings;
-use test_support::comparing::least;
-use test_support::reporting::{Finding, compared, difference, either, of_call};
-use test_support::{comparing, fillers, reporting};
+use test_support::comparing::first_difference;
+use test_support::fillers::{byte_filler, fill, first_changed};
+use test_support::rooms::Room;
 
-// How many bytes the longer file buffer has after those of the file.
-const AFTER: usize = 24;
+// What is written, and the file that is to be made of it.
+#[derive(Clone, Copy)]
+pub(crate) struct Written<'a> {
+    pub settings: Settings,
+    pub note: Note,
+    pub levels: &'a [i16],
+    pub file: &'a [u8],
+}
 
-fn compare_size(got: FileSize, refusal: u16, size: usize) -> Finding {
+fn compare_size(got: FileSize, refusal: u16, size: usize) -> Option<Finding> {
     if got.refusal != refusal {
-        return difference(parts::REFUSAL, got.refusal as usize);
+        return Some(Finding::of_part(Part::Refusal, usize::from(got.refusal)));
     }
     if got.size != size {
-        return difference(parts::SIZE, got.size);
+        return Some(Finding::of_part(Part::Size, got.size));
     }
-    difference(reporting::AGREES, 0)
+    None
 }
 
 // The size of a file; 0 where the settings are refused.
-pub(crate) fn check_size(s: Settings, refusal: u16, size: usize) -> Finding {
+pub(crate) fn check_size(s: Settings, refusal: u16, size: usize) -> Option<Finding> {
     of_call(
-        parts::SIZING,
+        Call::Sizing,
         compare_size(bale::file_size(s), refusal, size),
     )
 }
 
-// What a writing answers and leaves: one that is accepted the file, and the bytes after it as they were; a refused one all.
-fn compare_file(got: FileSize, refusal: u16, file: &[u8], out: &[u8]) -> Finding {
-    let mut size = 0;
-    if refusal == 0 {
-        size = file.len();
-    }
-    let answer = compare_size(got, refusal, size);
-    if answer.part != reporting::AGREES {
-        return answer;
-    }
-    let byte = comparing::bytes(file, out, size);
-    if byte < size {
-        return difference(parts::BYTE, byte);
-    }
-    let kept = fillers::first_changed_byte(out, size);
-    compared(parts::KEPT_BYTE, kept, out.len())
+// What a writing leaves: one that is accepted the file, and the bytes after it as they were; a refused one all.
+fn compare_file(refusal: u16, file: &[u8], out: &[u8]) -> Option<Finding> {
+    let size = if refusal == 0 { file.len() } else { 0 };
+    compared(Part::Byte, first_difference(file, out, size)).or(compared(
+        Part::KeptByte,
+        first_changed(out, size, byte_filler),
+    ))
 }
 
 // A writing into a filled buffer.
-pub(crate) fn check_writing(
-    refusal: u16,
-    s: Settings,
-    note: Note,
-    levels: &[i16],
-    file: &[u8],
-    out: &mut [u8],
-) -> Finding {
-    fillers::fill_bytes(out);
-    let got = bale::write_file(s, note, levels, out);
-    compare_file(got, refusal, file, out)
+pub(crate) fn check_writing(refusal: u16, w: Written, out: &mut [u8]) -> Option<Finding> {
+    fill(out, byte_filler);
+    let got = bale::write_file(w.settings, w.note, w.levels, out);
+    let size = if refusal == 0 { w.file.len() } else { 0 };
+    compare_size(got, refusal, size).or(compare_file(refusal, w.file, out))
 }
 
-// The bytes of the buffer that is lent for a file of so many bytes.
-fn room(call: u16, size: usize) -> usize
-    ensures { result ≤ 44794 }
-{
-    let n = least(size, parts::MOST_BYTES);
-    if call == parts::WRITING_LONGER {
-        return n + AFTER;
-    }
-    if call == parts::WRITING_SHORTER && 0 < n {
-        return n - 1;
-    }
-    n
-}
+// The longer buffer has 24 bytes after those of the file.
+const AFTER: usize = 24;
 
-// A writing with such a buffer: 8 where it lacks a byte.
-fn check_room(call: u16, s: Settings, note: Note, levels: &[i16], file: &[u8]) -> Finding {
-    let mut out: [u8; 44794] = [0; 44794];
-    let n = room(call, file.len());
-    let mut refusal = 0;
-    if call == parts::WRITING_SHORTER {
-        refusal = 8;
-    }
+// A writing into as many bytes as the file has, or into more or one fewer: 8 where it lacks a byte.
+fn check_room(room: Room, w: Written) -> Option<Finding> {
+    let mut out: [u8; MOST_BYTES + AFTER] = [0; MOST_BYTES + AFTER];
+    let refusal = match room {
+        Room::Shorter => 8,
+        _ => 0,
+    };
+    let n = room.places(w.file.len(), AFTER).min(MOST_BYTES + AFTER);
     of_call(
-        call,
-        check_writing(refusal, s, note, levels, file, &mut out[0..n]),
+        Call::Writing(room),
+        check_writing(refusal, w, &mut out[..n]),
     )
 }
 
-// Buffers of the file's length, of more bytes, and of one byte fewer.
-fn check_rooms(s: Settings, note: Note, levels: &[i16], file: &[u8]) -> Finding {
-    let size = check_size(s, 0, file.len());
-    let exact = check_room(parts::WRITING, s, note, levels, file);
-    let longer = check_room(parts::WRITING_LONGER, s, note, levels, file);
-    let shorter = check_room(parts::WRITING_SHORTER, s, note, levels, file);
-    either(either(size, exact), either(longer, shorter))
+fn check_rooms(w: Written) -> Option<Finding> {
+    check_size(w.settings, 0, w.file.len())
+        .or(check_room(Room::Exact, w))
+        .or(check_room(Room::Longer, w))
+        .or(check_room(Room::Shorter, w))
 }
 
-fn check_read(file: &[u8], levels: &mut [i16]) -> Finding {
+fn check_read(file: &[u8], levels: &mut [i16]) -> Option<Finding> {
     let b = bale::read_file(file, levels);
-    let s = b.settings;
-    let note = b.note;
-    check_rooms(s, note, levels, file)
+    check_rooms(Written {
+        settings: b.settings,
+        note: b.note,
+        levels,
+        file,
+    })
 }
 
 // Writes what an accepted file with so many nodes is read to hold: the same bytes.
-pub(crate) fn check_written(nodes: u16, file: &[u8]) -> Finding {
+pub(crate) fn check_written(nodes: u16, file: &[u8]) -> Option<Finding> {
     let mut levels: [i16; MOST_PLACES] = [0; MOST_PLACES];
-    let n = least(nodes as usize, MOST_PLACES);
-    check_read(file, &mut levels[0..n])
+    let n = usize::from(nodes).min(MOST_PLACES);
+    check_read(file, &mut levels[..n])
 }

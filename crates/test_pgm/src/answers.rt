@@ -1,13 +1,11 @@
 // What the readers and the writer are to answer, and how an answer differs.
-use crate::parts;
+use crate::parts::{Finding, Part};
 use pgm::{PgmSize, PictureSize};
-use test_support::reporting;
-use test_support::reporting::{Finding, difference};
 
 // A refusal holds 0 in the numbers.
 pub(crate) fn refused(refusal: u16) -> PictureSize {
     PictureSize {
-        refusal: refusal,
+        refusal,
         columns: 0,
         rows: 0,
     }
@@ -16,36 +14,33 @@ pub(crate) fn refused(refusal: u16) -> PictureSize {
 pub(crate) fn accepted(columns: u16, rows: u16) -> PictureSize {
     PictureSize {
         refusal: 0,
-        columns: columns,
-        rows: rows,
+        columns,
+        rows,
     }
 }
 
 // The first difference of a reader's answer.
-pub(crate) fn compare(got: PictureSize, e: PictureSize) -> Finding {
+pub(crate) fn compare(got: PictureSize, e: PictureSize) -> Option<Finding> {
     if got.refusal != e.refusal {
-        return difference(parts::REFUSAL, got.refusal as usize);
+        return Some(Finding::of_part(Part::Refusal, usize::from(got.refusal)));
     }
     if got.columns != e.columns {
-        return difference(parts::COLUMNS, got.columns as usize);
+        return Some(Finding::of_part(Part::Columns, usize::from(got.columns)));
     }
     if got.rows != e.rows {
-        return difference(parts::ROWS, got.rows as usize);
+        return Some(Finding::of_part(Part::Rows, usize::from(got.rows)));
     }
-    difference(reporting::AGREES, 0)
+    None
 }
 
 // The first difference of a file's size, which is 0 where it is refused.
-pub(crate) fn compare_size(got: PgmSize, refusal: u16, size: usize) -> Finding {
-    let mut expected = 0;
-    if refusal == 0 {
-        expected = size;
-    }
+pub(crate) fn compare_size(got: PgmSize, refusal: u16, size: usize) -> Option<Finding> {
+    let expected = if refusal == 0 { size } else { 0 };
     if got.refusal != refusal {
-        return difference(parts::REFUSAL, got.refusal as usize);
+        return Some(Finding::of_part(Part::Refusal, usize::from(got.refusal)));
     }
     if got.size != expected {
-        return difference(parts::SIZE, got.size);
+        return Some(Finding::of_part(Part::Size, got.size));
     }
-    difference(reporting::AGREES, 0)
+    None
 }

@@ -11,7 +11,23 @@ mod sizes;
 mod texts;
 mod writers;
 
+use parts::Finding;
+use std::io::Write;
 use std::{fs, io};
+use test_support::reporting;
+use test_support::reporting::{Checks, Tally};
+
+// Writes the line of a group of cases.
+fn print<W: Write>(out: &mut W, group: &str, t: Tally<Finding>) -> io::Result<()> {
+    reporting::print_cases(out, group, &t)?;
+    Ok(())
+}
+
+// Writes the line of a group of checks.
+fn print_checks<W: Write>(out: &mut W, group: &str, t: Checks) -> io::Result<()> {
+    reporting::print_checks(out, group, &t)?;
+    Ok(())
+}
 
 // Runs the cases of the vectors and writes their lines: all, and those of each answer that they say.
 fn report(rt: &HostRuntime, path: &str) -> io::Result<()> {
@@ -20,21 +36,29 @@ fn report(rt: &HostRuntime, path: &str) -> io::Result<()> {
     };
     let found = cases::check_all(&mut data)?;
     let mut out = rt.stdout();
-    parts::print(&mut out, path, found.all)?;
-    parts::print(&mut out, "accepted", found.accepted)?;
-    parts::print(&mut out, "refused with 1", found.size)?;
-    parts::print(&mut out, "refused with 16", found.header)?;
-    parts::print(&mut out, "refused with 17", found.greatest)?;
-    parts::print(&mut out, "refused with 18", found.pixels)
+    print(&mut out, path, found.all)?;
+    print(&mut out, "accepted", found.accepted)?;
+    print(&mut out, "refused with 1", found.size)?;
+    print(&mut out, "refused with 16", found.header)?;
+    print(&mut out, "refused with 17", found.greatest)?;
+    print(&mut out, "refused with 18", found.pixels)
 }
 
 fn main(rt: HostRuntime) -> io::Result<()> {
     report(&rt, "pgm.bin")?;
     let mut out = rt.stdout();
-    parts::print(&mut out, "sets of faults, reading", faults::check_all())?;
-    parts::print(&mut out, "sizes of files", sizes::check_sizes())?;
-    parts::print(&mut out, "sets of faults, writing", sizes::check_writings())?;
-    parts::print_checks(&mut out, 0, numbers::check_all())?;
-    parts::print_checks(&mut out, 1, texts::lengths())?;
-    parts::print_checks(&mut out, 2, texts::places())
+    print(&mut out, "sets of faults, reading", faults::check_all())?;
+    print(&mut out, "sizes of files", sizes::check_sizes())?;
+    print(&mut out, "sets of faults, writing", sizes::check_writings())?;
+    print_checks(
+        &mut out,
+        "numbers in decimal, writing",
+        numbers::check_all(),
+    )?;
+    print_checks(
+        &mut out,
+        "numbers in decimal, digits and limits",
+        texts::lengths(),
+    )?;
+    print_checks(&mut out, "numbers in decimal, places", texts::places())
 }

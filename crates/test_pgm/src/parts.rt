@@ -1,8 +1,8 @@
-// The calls that a case makes, and the parts of what a call answers and leaves, after those that every program has.
-use std::io;
-use std::io::Write;
+// The calls that a case makes, and the parts of what a call answers and leaves.
+use std::fmt;
 use test_support::reporting;
-use test_support::reporting::Tally;
+use test_support::reporting::Spot;
+use test_support::rooms::Room;
 
 // The largest picture has 129 by 129 pixels, and its single form 15 bytes more.
 pub(crate) const MOST_PIXELS: usize = 16641;
@@ -12,73 +12,85 @@ pub(crate) const MOST_PLACES: usize = 16642;
 
 pub(crate) const MOST_SINGLE: usize = 16656;
 
-pub(crate) const CHECKING: u16 = 1;
+#[derive(Clone, Copy)]
+pub(crate) enum Call {
+    Checking,
+    Reading(Room),
+    Sizing,
+    Writing(Room),
+    WritingPicture(Room),
+    ReadingBack,
+}
 
-pub(crate) const READING: u16 = 2;
+impl fmt::Display for Call {
+    fn fmt<W: fmt::Write>(&self, f: &mut fmt::Formatter<W>) -> fmt::Result {
+        f.write_str(match *self {
+            Call::Checking => "check_pgm",
+            Call::Reading(Room::Exact) => "read_pgm",
+            Call::Reading(Room::Longer) => "read_pgm with a pixel more",
+            Call::Reading(Room::Shorter) => "read_pgm with a pixel fewer",
+            Call::Sizing => "pgm_size",
+            Call::Writing(Room::Exact) => "write_pgm",
+            Call::Writing(Room::Longer) => "write_pgm with bytes more",
+            Call::Writing(Room::Shorter) => "write_pgm with a byte fewer",
+            Call::WritingPicture(Room::Longer) => "write_pgm of a pixel more",
+            Call::WritingPicture(_) => "write_pgm of a pixel fewer",
+            Call::ReadingBack => "read_pgm of what was written",
+        })
+    }
+}
 
-pub(crate) const READING_LONGER: u16 = 3;
+// For a refusal, a side or a size, the place is the one that was answered.
+#[derive(Clone, Copy)]
+pub(crate) enum Part {
+    EndOfVectors,
+    Refusal,
+    Columns,
+    Rows,
+    Pixel,
+    KeptPixel,
+    Size,
+    Byte,
+    KeptByte,
+}
 
-pub(crate) const READING_SHORTER: u16 = 4;
+impl fmt::Display for Part {
+    fn fmt<W: fmt::Write>(&self, f: &mut fmt::Formatter<W>) -> fmt::Result {
+        f.write_str(match *self {
+            Part::EndOfVectors => "end of the vectors",
+            Part::Refusal => "refusal",
+            Part::Columns => "columns",
+            Part::Rows => "rows",
+            Part::Pixel => "pixel",
+            Part::KeptPixel => "pixel to be kept",
+            Part::Size => "size",
+            Part::Byte => "byte",
+            Part::KeptByte => "byte to be kept",
+        })
+    }
+}
 
-pub(crate) const SIZING: u16 = 5;
+pub(crate) type Finding = reporting::Finding<Spot<Call, Part>>;
 
-pub(crate) const WRITING: u16 = 6;
+// A part that differs at a place, where there is one.
+pub(crate) fn compared(part: Part, place: Option<usize>) -> Option<Finding> {
+    place.map(|place| Finding::of_part(part, place))
+}
 
-pub(crate) const WRITING_LONGER: u16 = 7;
+// A case that is cut, unless all of it was read.
+pub(crate) fn cut_unless(is_read: bool) -> Option<Finding> {
+    (!is_read).then_some(Finding::of_part(Part::EndOfVectors, 0))
+}
 
-pub(crate) const WRITING_SHORTER: u16 = 8;
-
-pub(crate) const PICTURE_LONGER: u16 = 9;
-
-pub(crate) const PICTURE_SHORTER: u16 = 10;
-
-pub(crate) const READING_BACK: u16 = 11;
-
-pub(crate) const REFUSAL: u16 = 3;
-
-pub(crate) const COLUMNS: u16 = 4;
-
-pub(crate) const ROWS: u16 = 5;
-
-pub(crate) const PIXEL: u16 = 6;
-
-pub(crate) const KEPT_PIXEL: u16 = 7;
-
-pub(crate) const SIZE: u16 = 8;
-
-pub(crate) const BYTE: u16 = 9;
-
-pub(crate) const KEPT_BYTE: u16 = 10;
+// The same finding, of a call.
+pub(crate) fn of_call(call: Call, found: Option<Finding>) -> Option<Finding> {
+    found.map(|f| f.of_call(call))
+}
 
 // All bytes but the last; none where there is none.
 pub(crate) fn but_last(bytes: &[u8]) -> &[u8] {
-    if bytes.len() == 0 {
-        return bytes;
+    match bytes.split_last() {
+        Some((_, others)) => others,
+        None => bytes,
     }
-    let n = bytes.len() - 1;
-    &bytes[0..n]
-}
-
-// Writes the line of a group of cases, and where its first mismatch is: for a refusal, a side or a
-// size, the one that was answered.
-pub(crate) fn print<W: Write>(out: &mut W, group: &str, t: Tally) -> io::Result<()> {
-    reporting::print_cases(
-        out,
-        group.as_bytes(),
-        t,
-        b"|check_pgm, |read_pgm, |read_pgm with a pixel more, |read_pgm with a pixel fewer, |pgm_size, |write_pgm, |write_pgm with bytes more, |write_pgm with a byte fewer, |write_pgm of a pixel more, |write_pgm of a pixel fewer, |read_pgm of what was written, |",
-        b"||end of the vectors|refusal|columns|rows|pixel|pixel to be kept|size|byte|byte to be kept|",
-    )?;
-    Ok(())
-}
-
-// Writes the line of a group of checks.
-pub(crate) fn print_checks<W: Write>(out: &mut W, group: u16, t: Tally) -> io::Result<()> {
-    reporting::print_checks(
-        out,
-        b"numbers in decimal, writing|numbers in decimal, digits and limits|numbers in decimal, places|",
-        group,
-        t,
-    )?;
-    Ok(())
 }

@@ -4,3 +4,4 @@ pub mod Comparisons
 pub mod Tallies
 pub mod FaultSets
 pub mod FaultySettings
+pub mod Rooms

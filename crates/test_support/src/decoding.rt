@@ -6,7 +6,7 @@ use crate::reading::rest;
 use pyramid::Settings;
 use std::array;
 
-fn byte_at(bytes: &[u8], at: usize) -> u8
+pub fn byte_at(bytes: &[u8], at: usize) -> u8
     ensures { result ≡ get_or bytes.now at 0 }
 {
     bytes.get(at).copied().unwrap_or(0)

@@ -7,3 +7,4 @@ pub mod faults;
 pub mod fillers;
 pub mod reading;
 pub mod reporting;
+pub mod rooms;

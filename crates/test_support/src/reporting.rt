@@ -37,6 +37,14 @@ impl<C: Display, P: Display> Display for Spot<C, P> {
 }
 
 impl<C: Copy, P: Copy> Finding<Spot<C, P>> {
+    // A part that differs, of no call.
+    pub fn of_part(part: P, place: usize) -> Self
+        ensures { result ≡ record { part = record { call = None; part = part }; place = place } }
+    {
+        let part = Spot { call: None, part };
+        Finding { part, place }
+    }
+
     // The same finding, of a call.
     pub fn of_call(self, call: C) -> Self
         ensures { result ≡ record { part = record { call = Some call; part = self.part.part }; place = self.place } }

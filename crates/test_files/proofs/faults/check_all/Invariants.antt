@@ -1,6 +1,0 @@
--- `test_files::faults::check_all` is safe and ends. Assumes nothing.
-use Prim.Native.Nat.{◌-◌}
-use Rattle.test_files.proofs.faults.check_all.Given as goal
-
-abbrev pub decreases-loop-i : goal.decreases-loop-i
-decreases-loop-i v = 4096 - v.i

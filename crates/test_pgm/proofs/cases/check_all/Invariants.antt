@@ -1,5 +1,0 @@
--- `test_pgm::cases::check_all` is safe and ends. Assumes nothing.
-use Rattle.test_pgm.proofs.cases.check_all.Given as goal
-
-abbrev pub decreases-loop-left : goal.decreases-loop-left
-decreases-loop-left g v = v.left
