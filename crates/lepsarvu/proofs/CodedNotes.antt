@@ -1,97 +1,106 @@
--- The writer that is handed kinds and numbers for its readings: the first refusal, and what is left. Assumes nothing.
+-- The writer that is handed kinds and numbers for its readings: which refusal comes first, and what is left. Assumes nothing.
 use mathlib.Core.Path.{◌≡◌, refl, sym, ap, ◌∙◌}
 use mathlib.Core.List.{List, [], ◌∷◌}
-use Prim.Native.Nat.{ℕ}
-use native.Mathlib.Decide.{ℕ_discrete}
+use Prim.Native.Nat.{ℕ, zero, suc, ◌≤◌}
+use native.Mathlib.Omega.{arith}
 use lib.IntN.{ℤ}
 use lib.ListN.{length}
+use Rattle.refusals.specs.Definitions.Outcomes.{outcome}
 use Rattle.pyramid.specs.declared.Settings.{Settings}
 use Rattle.pyramid.specs.Definitions.Refusals.{first, settings_refusal}
 use Rattle.pyramid.specs.Definitions.Calls.{leaves}
-use Rattle.pyramid.proofs.Refusals.{first_earlier, first_later, first-last, leaves_new, leaves_kept}
+use Rattle.pyramid.specs.Checks.Numbers.{settings_numbers}
+use Rattle.pyramid.proofs.Numbers.{pyramid_numbers}
+use Rattle.pyramid.proofs.Refusals.{first_stop, first_skip, first-last, leaves_kept, outcome_left}
 use Rattle.bale.specs.declared.Note.{Note}
-use Rattle.bale.specs.declared.Probe.{Probe}
-use Rattle.bale.specs.declared.FileSize.{FileSize}
+use Rattle.bale.specs.declared.Reading.{Reading}
 use Rattle.bale.specs.Definitions.Readings.{decode}
 use Rattle.bale.specs.Definitions.Files.{file_length}
 use Rattle.bale.specs.Definitions.Calls.{write_refusal, write_file}
-use Rattle.bale.proofs.Answers.{writing_refusal, writing_is, writing_refused}
-use Rattle.lepsarvu.specs.Definitions.Exports.{note_of, coded_refusal, coded_file, coded_size}
+use Rattle.bale.specs.Checks.Numbers.{writing_numbers}
+use Rattle.bale.proofs.Numbers.{bale_numbers}
+use Rattle.bale.proofs.Answers.{writing_refusal}
+use Rattle.lepsarvu.specs.Definitions.Exports.{note_of, coded_refusal, coded_file}
+use Rattle.lepsarvu.proofs.Given.{small, one_small}
 
--- the two readings
-pub coded_note : (drierKind drierNumber pressKind pressNumber : ℕ) {drier press : Probe} → drier ≡ decode drierKind drierNumber → press ≡ decode pressKind pressNumber
-    → record { before_drier = drier.reading; at_press = press.reading } ≡ note_of drierKind drierNumber pressKind pressNumber
-unfolding note_of
-coded_note drierKind drierNumber pressKind pressNumber d p = rw (d, p)
+left_twice : {A : Type 0} (n : ℕ) (new old : A) → leaves n new old ≡ leaves n (leaves n new old) old
+unfolding leaves
+left_twice zero new old = refl
+left_twice (suc n) new old = refl
+
+first_most : (x : ℕ) (later : List ℕ) → x ≤ 18 → first later ≤ 18 → first (x ∷ later) ≤ 18
+unfolding first
+first_most zero later h k = k
+first_most (suc n) later h k = h
 
 module _ (s : Settings) (drierKind drierNumber pressKind pressNumber : ℕ) (levels : List ℤ) (file : List ℕ) where
-  abbrev note₀ : Note
-  note₀ = note_of drierKind drierNumber pressKind pressNumber
+  abbrev given-note : Note
+  given-note = note_of drierKind drierNumber pressKind pressNumber
 
-  -- what is looked for before the writer looks
-  abbrev heads : List ℕ
-  heads = settings_refusal s ∷ (decode drierKind drierNumber).refusal ∷ (decode pressKind pressNumber).refusal ∷ []
+  abbrev drier : ℕ
+  drier = (decode drierKind drierNumber).refusal
 
-  module _ {drier press : Probe} (d : drier ≡ decode drierKind drierNumber) (p : press ≡ decode pressKind pressNumber) where
-    module _ {m : ℕ} (e : m ≡ first (settings_refusal s ∷ drier.refusal ∷ press.refusal ∷ [])) where
-      heads_are : m ≡ first heads
-      heads_are = e ∙ rw (d, p)
+  abbrev press : ℕ
+  press = (decode pressKind pressNumber).refusal
 
-      stops : (m ≡ 0 → ⊥) → m ≡ coded_refusal s drierKind drierNumber pressKind pressNumber levels (length file)
+  abbrev coded : ℕ
+  coded = coded_refusal s drierKind drierNumber pressKind pressNumber levels (length file)
+
+  -- ---- which refusal comes first
+
+  pub settings_first : (settings_refusal s ≡ 0 → ⊥) → coded ≡ settings_refusal s
+  unfolding coded_refusal
+  settings_first r = first_stop _ _ r
+
+  module _ (none : settings_refusal s ≡ 0) where
+    pub drier_first : (drier ≡ 0 → ⊥) → coded ≡ drier
+    unfolding coded_refusal
+    drier_first r = first_skip _ _ none ∙ first_stop _ _ r
+
+    module _ (dry : drier ≡ 0) where
+      pub press_first : (press ≡ 0 → ⊥) → coded ≡ press
       unfolding coded_refusal
-      stops refused = heads_are ∙ sym (first_earlier heads (write_refusal s note₀ levels (length file) ∷ []) (λ z. refused (heads_are ∙ z)))
+      press_first r = first_skip _ _ none ∙ first_skip _ _ dry ∙ first_stop _ _ r
 
-      pub coded_stops : (m ≡ 0 → ⊥) → (old : ℕ)
-          → (m ≡ coded_refusal s drierKind drierNumber pressKind pressNumber levels (length file)) × ((file ≡ coded_file s drierKind drierNumber pressKind pressNumber levels file) × (old ≡ coded_size s drierKind drierNumber pressKind pressNumber levels (length file) old))
-      unfolding coded_file coded_size
-      coded_stops refused old = (
-        stops refused,
-        (
-          rw (← stops refused) (sym (leaves_kept m (write_file s note₀ levels file).file file refused)),
-          rw (← stops refused) (sym (leaves_kept m (file_length s) old refused)),
-        ),
-      )
-
-      coded-is : m ≡ 0 → coded_refusal s drierKind drierNumber pressKind pressNumber levels (length file) ≡ write_refusal s note₀ levels (length file)
+      pub writer_first : press ≡ 0 → coded ≡ write_refusal s given-note levels (length file)
       unfolding coded_refusal
-      coded-is z = first_later heads (write_refusal s note₀ levels (length file) ∷ []) (sym heads_are ∙ z) ∙ first-last _
+      writer_first pressed = first_skip _ _ none ∙ first_skip _ _ dry ∙ first_skip _ _ pressed ∙ first-last _
 
-      -- then the writer's answer and file
-      module _ (z : m ≡ 0) {note : Note} (n : note ≡ note_of drierKind drierNumber pressKind pressNumber) {answer : FileSize} {new : List ℕ} (a : answer ≡ (write_file s note levels file).answer)
-          (f : new ≡ (write_file s note levels file).file) where
-        refusal_is : answer.refusal ≡ coded_refusal s drierKind drierNumber pressKind pressNumber levels (length file)
-        refusal_is = ap (λ (x : FileSize). x.refusal) a ∙ writing_refusal s note levels file ∙ rw n (sym (coded-is z))
+  -- ---- what is left in the file buffer
 
-        written : answer.refusal ≡ 0 → (old : ℕ)
-            → (answer.refusal ≡ coded_refusal s drierKind drierNumber pressKind pressNumber levels (length file)) × ((new ≡ coded_file s drierKind drierNumber pressKind pressNumber levels file) × (answer.size ≡ coded_size s drierKind drierNumber pressKind pressNumber levels (length file) old))
-        unfolding coded_file coded_size
-        written none old =
-            let r : write_refusal s note₀ levels (length file) ≡ 0 = sym (coded-is z) ∙ sym refusal_is ∙ none in (
-              refusal_is,
-              (
-                f ∙ rw (n, coded-is z) (sym (leaves_new _ _ _ r)),
-                ap (λ (x : FileSize). x.size) a ∙ rw (n, coded-is z, writing_is s note₀ levels file r) (sym (leaves_new _ _ _ r)),
-              ),
-            )
+  pub file_kept : (coded ≡ 0 → ⊥) → file ≡ coded_file s drierKind drierNumber pressKind pressNumber levels file
+  unfolding coded_file
+  file_kept r = sym (leaves_kept _ _ _ r)
 
-        unwritten : (answer.refusal ≡ 0 → ⊥) → (old : ℕ)
-            → (answer.refusal ≡ coded_refusal s drierKind drierNumber pressKind pressNumber levels (length file)) × ((new ≡ coded_file s drierKind drierNumber pressKind pressNumber levels file) × (old ≡ coded_size s drierKind drierNumber pressKind pressNumber levels (length file) old))
-        unfolding coded_file coded_size
-        unwritten refused old =
-            let r : write_refusal s note₀ levels (length file) ≡ 0 → ⊥ = λ x. refused (refusal_is ∙ coded-is z ∙ x) in (
-              refusal_is,
-              (
-                f ∙ rw (n, coded-is z) (sym (writing_refused s note₀ levels file refl r).1 ∙ sym (leaves_kept _ _ _ r)),
-                rw (coded-is z) (sym (leaves_kept _ _ _ r)),
-              ),
-            )
+  -- what the writer leaves and answers, where it is the one that is asked
+  module _ (e : coded ≡ write_refusal s given-note levels (length file)) where
+    pub file_written : (write_file s given-note levels file).file ≡ coded_file s drierKind drierNumber pressKind pressNumber levels file
+    unfolding coded_file write_file
+    file_written = rw e (left_twice (write_refusal s given-note levels (length file)) _ file)
 
-        -- with the size handed out
-        pub handed : {r size : ℕ} → r ≡ answer.refusal → (old : ℕ) → size ≡ leaves answer.refusal answer.size old
-            → (r ≡ coded_refusal s drierKind drierNumber pressKind pressNumber levels (length file)) × ((new ≡ coded_file s drierKind drierNumber pressKind pressNumber levels file) × (size ≡ coded_size s drierKind drierNumber pressKind pressNumber levels (length file) old))
-        handed {r} {size} k old p = cases (ℕ_discrete answer.refusal 0)
-          where
-            cases : Dec (answer.refusal ≡ 0)
-                → (r ≡ coded_refusal s drierKind drierNumber pressKind pressNumber levels (length file)) × ((new ≡ coded_file s drierKind drierNumber pressKind pressNumber levels file) × (size ≡ coded_size s drierKind drierNumber pressKind pressNumber levels (length file) old))
-            cases (yes none) = let (a', (b, d')) = written none old in (k ∙ a', (b, p ∙ leaves_new _ _ _ none ∙ d'))
-            cases (no refused) = let (a', (b, d')) = unwritten refused old in (k ∙ a', (b, p ∙ leaves_kept _ _ _ refused ∙ d'))
+    pub size_answered : outcome (write_file s given-note levels file).answer.refusal (write_file s given-note levels file).answer.size ≡ outcome coded (file_length s)
+    unfolding write_file
+    size_answered = outcome_left _ _ _ ∙ ap (λ (n : ℕ). outcome n (file_length s)) (sym e)
+
+  -- ---- the number is that of a refusal
+
+  settings_number : settings_refusal s ≤ 18
+  unfolding small
+  settings_number = one_small (0 ∷ settings_numbers) _ tt (pyramid_numbers s).of_settings
+
+  reading_number : (kind number : ℕ) → (decode kind number).refusal ≤ 18
+  unfolding small
+  reading_number kind number = one_small (0 ∷ 4 ∷ []) _ tt (bale_numbers.of_decoding kind number)
+
+  writer_number : write_refusal s given-note levels (length file) ≤ 18
+  unfolding small
+  writer_number =
+      let h : (write_file s given-note levels file).answer.refusal ≤ 18 = one_small (0 ∷ writing_numbers) _ tt (bale_numbers.of_writing s given-note levels file) in
+      rw (writing_refusal s given-note levels file) at h
+
+  pub coded_number : coded ≤ 18
+  unfolding coded_refusal
+  coded_number =
+      first_most _ _ settings_number
+      (first_most _ _ (reading_number drierKind drierNumber)
+      (first_most _ _ (reading_number pressKind pressNumber) (rw first-last writer_number)))

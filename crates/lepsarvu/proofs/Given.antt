@@ -1,32 +1,44 @@
--- What is left where a caller lent a number or an array for a part of an answer. Assumes nothing.
-use mathlib.Core.Path.{◌≡◌, sym, ap, ◌∙◌}
-use mathlib.Core.List.{[], ◌∷◌}
-use Prim.Native.Nat.{ℕ}
+-- What a call answers as a number, and what is left where a caller lent room for a part of its answer. Assumes nothing.
+use Rattle.std.proofs.Common.{◌≡◌, refl, sym, ap, ◌∙◌, Bool, true, false, cond, List, [], ◌∷◌, ℕ, zero, suc, ◌≤◌, leb, Result, Ok, Err, arith}
+use borrow.Author.Tests.{leb-true}
+use lib.Dec.{T, eqb}
+use Rattle.std.proofs.lemmas.Bool.{eqb-true}
+use Rattle.refusals.specs.declared.Refusal.{Refusal}
+use Rattle.refusals.specs.Definitions.Outcomes.{outcome, answer_number}
+use Rattle.refusals.proofs.Outcomes.{one_number_each}
 use Rattle.pyramid.specs.Definitions.Calls.{leaves}
-use Rattle.pyramid.proofs.Refusals.{leaves_new, leaves_kept}
-use Rattle.bale.specs.declared.Note.{Note}
-use Rattle.bale.specs.declared.Code.{Code}
-use Rattle.bale.specs.Definitions.Readings.{code_of}
-use Rattle.lepsarvu.specs.Definitions.Exports.{kinds_of, numbers_of}
+use Rattle.pyramid.specs.Checks.Numbers.{one_of}
+use Rattle.lepsarvu.specs.Definitions.Exports.{given}
 
-module _ {A B : Type 0} (refusal : A → ℕ) (field : A → B) {answer is : A} (e : answer ≡ is) (old : B) where
-  pub given : refusal answer ≡ 0 → (refusal answer ≡ refusal is) × (field answer ≡ leaves (refusal answer) (field is) old)
-  given z = (ap refusal e, ap field e ∙ sym (leaves_new (refusal answer) (field is) old z))
+-- ---- a number that a call answers is one of the table's
 
-  pub kept : (refusal answer ≡ 0 → ⊥) → (refusal answer ≡ refusal is) × (old ≡ leaves (refusal answer) (field is) old)
-  kept refused = (ap refusal e, sym (leaves_kept (refusal answer) (field is) old refused))
+unfoldable pub small : List ℕ → Bool
+small [] = true
+small (m ∷ ms) = cond (leb m 18) (small ms) false
 
--- what another function gave of an answer, whose refusal it answered
-module _ {A B : Type 0} (refusal : A → ℕ) (field : A → B) {answer is : A} (e : answer ≡ is) (old : B) where
-  pub passed_on : {new : B} {r : ℕ} → r ≡ refusal answer → new ≡ leaves (refusal answer) (field answer) old → new ≡ leaves r (field is) old
-  passed_on p q = q ∙ rw (p, ap field e)
+pub one_small : (ms : List ℕ) (n : ℕ) → T (small ms) → T (one_of ms n) → n ≤ 18
+unfolding small
+one_small [] n s t = absurd t
+one_small (m ∷ ms) n s t = by_tests (leb m 18) refl (eqb n m) refl s t (λ s t. one_small ms n s t)
+  where
+    by_tests : (b : Bool) → leb m 18 ≡ b → (c : Bool) → eqb n m ≡ c → T (cond b (small ms) false) → T (cond c true (one_of ms n)) → (T (small ms) → T (one_of ms n) → n ≤ 18) → n ≤ 18
+    by_tests true low true same s t later = let e = eqb-true n m same in let l = leb-true m 18 low in omega arith
+    by_tests true low false other s t later = later s t
+    by_tests false low c other s t later = absurd s
 
--- the kinds and numbers of two readings
-module _ (note : Note) {drier press : Code} (d : drier ≡ code_of note.before_drier) (p : press ≡ code_of note.at_press) where
-  pub kinds_are : drier.kind ∷ press.kind ∷ [] ≡ kinds_of note
-  unfolding kinds_of
-  kinds_are = rw (d, p)
+-- ---- what is answered and left, of an answer that is given
 
-  pub numbers_are : drier.number ∷ press.number ∷ [] ≡ numbers_of note
-  unfolding numbers_of
-  numbers_are = rw (d, p)
+module _ {A : Type 0} {n : ℕ} (h : n ≤ 18) (value : A) {answer : Result A Refusal} (e : answer ≡ outcome n value) where
+  pub number-is : {r : ℕ} → r ≡ answer_number answer → r ≡ n
+  number-is p = p ∙ ap answer_number e ∙ one_number_each.answered n value h
+
+  left-is : {B : Type 0} (field : A → B) (old : B) → given (outcome n value) field old ≡ leaves n (field value) old
+  unfolding given outcome leaves
+  left-is field old = by_number n value
+    where
+      by_number : (n : ℕ) (value : A) → given (outcome n value) field old ≡ leaves n (field value) old
+      by_number zero value = refl
+      by_number (suc n) value = refl
+
+  pub left : {B : Type 0} (field : A → B) (old : B) {new : B} {r : ℕ} → r ≡ answer_number answer → new ≡ given answer field old → new ≡ leaves r (field value) old
+  left field old p q = rw (number-is p) (q ∙ ap (λ (a : Result A Refusal). given a field old) e ∙ left-is field old)

@@ -1,3 +1,4 @@
 pub mod Given
-pub mod CodedNotes
+pub mod FileAnswers
 pub mod PictureAnswers
+pub mod CodedNotes

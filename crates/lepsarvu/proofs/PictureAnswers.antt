@@ -1,34 +1,9 @@
--- What is left where a caller lent room for what a PGM call answers, by the call's number. Assumes nothing.
-use Rattle.std.proofs.Common.{◌≡◌, refl, sym, ap, ◌∙◌, Bool, true, false, cond, List, [], ◌∷◌, ℕ, zero, suc, ◌≤◌, leb, Result, Ok, Err, arith, inl, inr}
-use borrow.Author.Tests.{leb-true}
-use lib.Dec.{T, eqb}
-use lib.ListN.{length}
-use Rattle.std.proofs.lemmas.Bool.{eqb-true}
-use Rattle.refusals.specs.declared.Refusal.{Refusal}
-use Rattle.refusals.specs.Definitions.Outcomes.{outcome, answer_number}
-use Rattle.refusals.proofs.Outcomes.{one_number_each}
-use Rattle.pyramid.specs.Definitions.Calls.{leaves}
-use Rattle.pyramid.specs.Checks.Numbers.{one_of}
+-- The numbers that calls on PGM files answer are those of refusals. Assumes nothing.
+use Rattle.std.proofs.Common.{List, ◌∷◌, ℕ, ◌≤◌}
 use Rattle.pgm.specs.Definitions.Calls.{size_answer, write_pgm, check_pgm, read_pgm}
 use Rattle.pgm.specs.Checks.Numbers.{size_numbers, writing_numbers, check_numbers, read_numbers}
 use Rattle.pgm.proofs.Numbers.{pgm_numbers}
-use Rattle.lepsarvu.specs.Definitions.Exports.{given}
-
--- ---- a number that a call answers is one of the table's
-
-small : List ℕ → Bool
-small [] = true
-small (m ∷ ms) = cond (leb m 18) (small ms) false
-
-one_small : (ms : List ℕ) (n : ℕ) → T (small ms) → T (one_of ms n) → n ≤ 18
-unfolding small
-one_small [] n s t = absurd t
-one_small (m ∷ ms) n s t = by_tests (leb m 18) refl (eqb n m) refl s t (λ s t. one_small ms n s t)
-  where
-    by_tests : (b : Bool) → leb m 18 ≡ b → (c : Bool) → eqb n m ≡ c → T (cond b (small ms) false) → T (cond c true (one_of ms n)) → (T (small ms) → T (one_of ms n) → n ≤ 18) → n ≤ 18
-    by_tests true low true same s t later = let e = eqb-true n m same in let l = leb-true m 18 low in omega arith
-    by_tests true low false other s t later = later s t
-    by_tests false low c other s t later = absurd s
+use Rattle.lepsarvu.proofs.Given.{small, one_small}
 
 module _ (columns rows : ℕ) where
   pub size_number : (size_answer columns rows).refusal ≤ 18
@@ -47,20 +22,3 @@ module _ (bytes : List ℕ) where
   pub read_number : (picture : List ℕ) → (read_pgm bytes picture).answer.refusal ≤ 18
   unfolding small
   read_number picture = one_small (0 ∷ read_numbers) _ tt (pgm_numbers.of_reading bytes picture)
-
--- ---- what is answered and left, of an answer that is given
-
-module _ {A : Type 0} {n : ℕ} (h : n ≤ 18) (value : A) {answer : Result A Refusal} (e : answer ≡ outcome n value) where
-  pub number-is : {r : ℕ} → r ≡ answer_number answer → r ≡ n
-  number-is p = p ∙ ap answer_number e ∙ one_number_each.answered n value h
-
-  left-is : {B : Type 0} (field : A → B) (old : B) → given (outcome n value) field old ≡ leaves n (field value) old
-  unfolding given outcome leaves
-  left-is field old = by_number n value
-    where
-      by_number : (n : ℕ) (value : A) → given (outcome n value) field old ≡ leaves n (field value) old
-      by_number zero value = refl
-      by_number (suc n) value = refl
-
-  pub left : {B : Type 0} (field : A → B) (old : B) {new : B} {r : ℕ} → r ≡ answer_number answer → new ≡ given answer field old → new ≡ leaves r (field value) old
-  left field old p q = rw (number-is p) (q ∙ ap (λ (a : Result A Refusal). given a field old) e ∙ left-is field old)

@@ -1,15 +1,18 @@
 // The pyramid and the bale file for programs in C or Rust: numbers and slices alone. include/lepsarvu.h declares each function.
 #![tactic(auto)]
 
-ghost use Rattle.std.specs.Prelude.{◌≡◌, [], ◌∷◌, length};
+ghost use Rattle.std.specs.Prelude.{◌≡◌, length};
+ghost use Rattle.refusals.specs.Definitions.Outcomes.{outcome, answer_number};
 ghost use Rattle.pyramid.specs.Definitions.Calls.{leaves, coding, rebuilding};
 ghost use Rattle.pyramid.specs.Definitions.Answers.{nodes_answer, bounds_answer, deepest_answer};
-ghost use Rattle.pyramid.specs.Definitions.Refusals.{first, settings_refusal};
+ghost use Rattle.bale.specs.Definitions.Readings.{code_of, code_in};
+ghost use Rattle.bale.specs.Definitions.Files.{file_length};
 ghost use Rattle.bale.specs.Definitions.Calls.{size_answer, check_file, read_file};
-ghost use Rattle.lepsarvu.specs.Definitions.Exports.{settings_of, shape_of, kinds_of, numbers_of, coded_refusal, coded_file, coded_size};
+ghost use Rattle.lepsarvu.specs.Definitions.Exports.{settings_of, shape_of, kinds_of, numbers_of, given, coded_refusal, coded_file, coded_size};
 
-use bale::{Bale, FileSize, Note, Probe};
+use bale::{Bale, Code, Note, Reading};
 use pyramid::Settings;
+use refusals::{Refusal, answer_number};
 
 pub mod pictures;
 
@@ -17,11 +20,26 @@ fn settings(columns: u16, rows: u16, depth: u16, kernel: u16, bins: [u16; 7]) ->
     ensures { result ≡ settings_of columns rows depth kernel bins }
 {
     Settings {
-        columns: columns,
-        rows: rows,
-        depth: depth,
-        kernel: kernel,
-        bins: bins,
+        columns,
+        rows,
+        depth,
+        kernel,
+        bins,
+    }
+}
+
+// The number of an answer; what is answered goes where room was lent for it.
+#[tactic(auto, unfolding(crate::specs::Definitions::Exports::given, refusals::specs::Definitions::Outcomes::answer_number))]
+pub(crate) fn give<T: Copy>(answer: Result<T, Refusal>, place: &mut T) -> u16
+    ensures value { result ≡ answer_number answer }
+    ensures place_after { place.new ≡ given answer (λ value. value) place.old }
+{
+    match answer {
+        Ok(value) => {
+            *place = value;
+            0
+        }
+        Err(refusal) => u16::from(refusal),
     }
 }
 
@@ -45,9 +63,8 @@ pub fn lepsarvu_coding(
         (coding (settings_of columns rows depth kernel bins.now) picture.now
         levels.old work.old).work }
 {
-    let b = *bins;
-    let s = settings(columns, rows, depth, kernel, b);
-    pyramid::coding(s, picture, levels, work)
+    let s = settings(columns, rows, depth, kernel, *bins);
+    answer_number(pyramid::coding(s, picture, levels, work))
 }
 
 pub fn lepsarvu_rebuilding(
@@ -70,9 +87,8 @@ pub fn lepsarvu_rebuilding(
         (rebuilding (settings_of columns rows depth kernel bins.now) levels.now
         picture.old work.old).work }
 {
-    let b = *bins;
-    let s = settings(columns, rows, depth, kernel, b);
-    pyramid::rebuilding(s, levels, picture, work)
+    let s = settings(columns, rows, depth, kernel, *bins);
+    answer_number(pyramid::rebuilding(s, levels, picture, work))
 }
 
 pub fn lepsarvu_level_bounds(
@@ -88,24 +104,15 @@ pub fn lepsarvu_level_bounds(
         leaves result (bounds_answer (settings_of columns rows depth kernel bins.now)).levels
         bounds.old }
 {
-    let b = *bins;
-    let answer = pyramid::level_bounds(settings(columns, rows, depth, kernel, b));
-    if answer.refusal == 0 {
-        let levels = answer.levels;
-        *bounds = levels;
-    }
-    answer.refusal
+    let s = settings(columns, rows, depth, kernel, *bins);
+    give(pyramid::level_bounds(s), bounds)
 }
 
 pub fn lepsarvu_deepest_depth(columns: u16, rows: u16, depth: &mut u16) -> u16
     ensures value { result ≡ (deepest_answer columns rows).refusal }
     ensures depth_after { depth.new ≡ leaves result (deepest_answer columns rows).depth depth.old }
 {
-    let answer = pyramid::deepest_depth(columns, rows);
-    if answer.refusal == 0 {
-        *depth = answer.depth;
-    }
-    answer.refusal
+    give(pyramid::deepest_depth(columns, rows), depth)
 }
 
 pub fn lepsarvu_total_nodes(
@@ -121,23 +128,8 @@ pub fn lepsarvu_total_nodes(
         leaves result (nodes_answer (settings_of columns rows depth kernel bins.now)).nodes
         nodes.old }
 {
-    let b = *bins;
-    let answer = pyramid::total_nodes(settings(columns, rows, depth, kernel, b));
-    if answer.refusal == 0 {
-        *nodes = answer.nodes;
-    }
-    answer.refusal
-}
-
-// A size, into what was lent for it.
-fn give_size(answer: FileSize, size: &mut usize) -> u16
-    ensures value { result ≡ answer.refusal }
-    ensures size_after { size.new ≡ leaves answer.refusal answer.size size.old }
-{
-    if answer.refusal == 0 {
-        *size = answer.size;
-    }
-    answer.refusal
+    let s = settings(columns, rows, depth, kernel, *bins);
+    give(pyramid::total_nodes(s), nodes)
 }
 
 pub fn lepsarvu_file_size(
@@ -153,23 +145,31 @@ pub fn lepsarvu_file_size(
         leaves result (size_answer (settings_of columns rows depth kernel bins.now)).size
         size.old }
 {
-    let b = *bins;
-    let answer = bale::file_size(settings(columns, rows, depth, kernel, b));
-    give_size(answer, size)
+    let s = settings(columns, rows, depth, kernel, *bins);
+    give(bale::file_size(s), size)
 }
 
-// The writer's refusal of two readings, which comes after those of the settings.
-fn note_refusal(s: Settings, drier: Probe, press: Probe) -> u16
-    ensures { result ≡ first (settings_refusal s ∷ drier.refusal ∷ press.refusal ∷ []) }
+// Writes a file whose readings are handed in as a kind and a number each, and answers its size.
+fn write_coded(
+    s: Settings,
+    drier: Code,
+    press: Code,
+    levels: &[i16],
+    file: &mut [u8],
+) -> Result<usize, Refusal>
+    ensures value { result ≡
+        outcome (coded_refusal s drier.kind drier.number press.kind press.number levels.now (length file.old)) (file_length s) }
+    ensures file_after { file.new ≡
+        coded_file s drier.kind drier.number press.kind press.number levels.now file.old }
 {
-    let refusal = pyramid::settings_refusal(s);
-    if refusal != 0 {
-        return refusal;
-    }
-    if drier.refusal != 0 {
-        return drier.refusal;
-    }
-    press.refusal
+    pyramid::check_settings(s)?;
+    let before_drier = bale::coded_reading(drier.kind, drier.number)?;
+    let at_press = bale::coded_reading(press.kind, press.number)?;
+    let note = Note {
+        before_drier,
+        at_press,
+    };
+    bale::write_file(s, note, levels, file)
 }
 
 pub fn lepsarvu_write_file(
@@ -196,56 +196,54 @@ pub fn lepsarvu_write_file(
         coded_size (settings_of columns rows depth kernel bins.now) drier_kind drier_number
         press_kind press_number levels.now (length file.old) size.old }
 {
-    let b = *bins;
-    let s = settings(columns, rows, depth, kernel, b);
-    let drier = bale::coded_reading(drier_kind, drier_number);
-    let press = bale::coded_reading(press_kind, press_number);
-    let refusal = note_refusal(s, drier, press);
-    if refusal != 0 {
-        return refusal;
-    }
-    let before_drier = drier.reading;
-    let at_press = press.reading;
-    let note = Note {
-        before_drier: before_drier,
-        at_press: at_press,
+    let s = settings(columns, rows, depth, kernel, *bins);
+    let drier = Code {
+        kind: drier_kind,
+        number: drier_number,
     };
-    let answer = bale::write_file(s, note, levels, file);
-    give_size(answer, size)
+    let press = Code {
+        kind: press_kind,
+        number: press_number,
+    };
+    give(write_coded(s, drier, press, levels, file), size)
+}
+
+// The kind and number of a reading; 0 and 0 of one that breaks its rule, which no reader answers.
+fn code_of(reading: Reading) -> Code
+    ensures { result ≡ code_in (code_of reading) }
+{
+    bale::reading_code(reading).unwrap_or(Code { kind: 0, number: 0 })
 }
 
 // What a reader answers, into what it was lent.
-fn give(
-    answer: Bale,
+#[tactic(auto, unfolding(crate::specs::Definitions::Exports::given, refusals::specs::Definitions::Outcomes::answer_number))]
+fn give_bale(
+    answer: Result<Bale, Refusal>,
     shape: &mut [u16; 4],
     bins: &mut [u16; 7],
     kinds: &mut [u8; 2],
     numbers: &mut [u32; 2],
 ) -> u16
-    ensures value { result ≡ answer.refusal }
-    ensures shape_after { shape.new ≡
-        leaves answer.refusal (shape_of answer.settings) shape.old }
-    ensures bins_after { bins.new ≡
-        leaves answer.refusal answer.settings.bins bins.old }
-    ensures kinds_after { kinds.new ≡
-        leaves answer.refusal (kinds_of answer.note) kinds.old }
-    ensures numbers_after { numbers.new ≡
-        leaves answer.refusal (numbers_of answer.note) numbers.old }
+    ensures value { result ≡ answer_number answer }
+    ensures shape_after { shape.new ≡ given answer (λ b. shape_of b.settings) shape.old }
+    ensures bins_after { bins.new ≡ given answer (λ b. b.settings.bins) bins.old }
+    ensures kinds_after { kinds.new ≡ given answer (λ b. kinds_of b.note) kinds.old }
+    ensures numbers_after { numbers.new ≡ given answer (λ b. numbers_of b.note) numbers.old }
 {
-    if answer.refusal == 0 {
-        let s = answer.settings;
-        let note = answer.note;
-        let before_drier = note.before_drier;
-        let at_press = note.at_press;
-        let drier = bale::reading_code(before_drier);
-        let press = bale::reading_code(at_press);
-        let b = s.bins;
-        *shape = [s.columns, s.rows, s.depth, s.kernel];
-        *bins = b;
-        *kinds = [drier.kind, press.kind];
-        *numbers = [drier.number, press.number];
+    match answer {
+        Ok(bale) => {
+            let s = bale.settings;
+            let slots = s.bins;
+            let drier = code_of(bale.note.before_drier);
+            let press = code_of(bale.note.at_press);
+            *shape = [s.columns, s.rows, s.depth, s.kernel];
+            *bins = slots;
+            *kinds = [drier.kind, press.kind];
+            *numbers = [drier.number, press.number];
+            0
+        }
+        Err(refusal) => u16::from(refusal),
     }
-    answer.refusal
 }
 
 pub fn lepsarvu_read_file(
@@ -272,7 +270,7 @@ pub fn lepsarvu_read_file(
         numbers.old }
 {
     let answer = bale::read_file(file, levels);
-    give(answer, shape, bins, kinds, numbers)
+    give_bale(answer, shape, bins, kinds, numbers)
 }
 
 pub fn lepsarvu_check_file(
@@ -292,6 +290,5 @@ pub fn lepsarvu_check_file(
     ensures numbers_after { numbers.new ≡
         leaves result (numbers_of (check_file file.now).note) numbers.old }
 {
-    let answer = bale::check_file(file);
-    give(answer, shape, bins, kinds, numbers)
+    give_bale(bale::check_file(file), shape, bins, kinds, numbers)
 }

@@ -1,12 +1,11 @@
 -- `lepsarvu::lepsarvu_file_size` meets its contract, which is that of `bale::file_size`. Assumes nothing.
-use mathlib.Core.Path.{ap, ◌∙◌}
-use Rattle.bale.specs.declared.FileSize.{FileSize}
-use Rattle.bale.specs.Definitions.Calls.{size_answer}
+use Rattle.lepsarvu.proofs.FileAnswers.{size_number}
+use Rattle.lepsarvu.proofs.Given.{number-is, left}
 use Rattle.lepsarvu.proofs.lepsarvu_file_size.Goals as goal
 
 pub returns : goal.returns
 returns c =
-    let f = c.before.before in
-    let e = f.file_size-answer.ensures ∙ ap size_answer f.settings.ensures in
-    let g = c.give_size.ensures in
-    record { value = g.value ∙ ap (λ (a : FileSize). a.refusal) e; size_after = rw (g.value, ← e) g.size_after }
+    let h = size_number c.settings-s.result in
+    let e = c.file_size.ensures in
+    let g = c.give.ensures in
+    rw (← c.settings-s.ensures) (record { value = number-is h _ e g.value; size_after = left h _ e (λ value. value) _ g.value g.place_after })

@@ -1,16 +1,11 @@
--- `lepsarvu::lepsarvu_level_bounds` meets its contract: what the answer holds, where there is no refusal. Assumes nothing.
-use mathlib.Core.Path.{ap, ◌∙◌}
-use Rattle.pyramid.specs.declared.Bounds.{Bounds}
-use Rattle.pyramid.specs.Definitions.Answers.{bounds_answer}
-use Rattle.lepsarvu.proofs.Given.{given, kept}
+-- `lepsarvu::lepsarvu_level_bounds` meets its contract, which is that of `pyramid::level_bounds`. Assumes nothing.
+use Rattle.lepsarvu.proofs.FileAnswers.{bounds_number}
+use Rattle.lepsarvu.proofs.Given.{number-is, left}
 use Rattle.lepsarvu.proofs.lepsarvu_level_bounds.Goals as goal
 
-pub returns-then-answer-eq0 : goal.returns-then-answer-eq0
-returns-then-answer-eq0 c =
-    let r = given (λ (a : Bounds). a.refusal) (λ (a : Bounds). a.levels) (c.level_bounds-answer.ensures ∙ ap bounds_answer c.settings.ensures) c.args.bounds.now c.if-answer-eq0.true in
-    record { value = r.0; bounds_after = r.1 }
-
-pub returns-else-answer-eq0 : goal.returns-else-answer-eq0
-returns-else-answer-eq0 c =
-    let r = kept (λ (a : Bounds). a.refusal) (λ (a : Bounds). a.levels) (c.level_bounds-answer.ensures ∙ ap bounds_answer c.settings.ensures) c.args.bounds.now c.if-answer-eq0.false in
-    record { value = r.0; bounds_after = r.1 }
+pub returns : goal.returns
+returns c =
+    let h = bounds_number c.settings-s.result in
+    let e = c.level_bounds.ensures in
+    let g = c.give.ensures in
+    rw (← c.settings-s.ensures) (record { value = number-is h _ e g.value; bounds_after = left h _ e (λ value. value) _ g.value g.place_after })

@@ -1,17 +1,20 @@
 -- `lepsarvu::lepsarvu_read_file` meets its contract, which is that of `bale::read_file`. Assumes nothing.
-use mathlib.Core.Path.{ap, ◌∙◌}
 use Rattle.bale.specs.declared.Bale.{Bale}
+use Rattle.lepsarvu.specs.Definitions.Exports.{shape_of, kinds_of, numbers_of}
+use Rattle.lepsarvu.proofs.FileAnswers.{read_number}
+use Rattle.lepsarvu.proofs.Given.{number-is, left}
 use Rattle.lepsarvu.proofs.lepsarvu_read_file.Goals as goal
 
 pub returns : goal.returns
 returns c =
-    let f = c.read_file-answer.ensures in
-    let g = c.give.ensures in
+    let h = read_number c.args.file.now c.args.levels.now in
+    let e = c.read_file-answer.ensures.value in
+    let g = c.give_bale.ensures in
     record {
-      value = g.value ∙ ap (λ (a : Bale). a.refusal) f.value;
-      levels_after = f.levels_after;
-      shape_after = rw (g.value, ← f.value) g.shape_after;
-      bins_after = rw (g.value, ← f.value) g.bins_after;
-      kinds_after = rw (g.value, ← f.value) g.kinds_after;
-      numbers_after = rw (g.value, ← f.value) g.numbers_after;
+      value = number-is h _ e g.value;
+      levels_after = c.read_file-answer.ensures.levels_after;
+      shape_after = left h _ e (λ (b : Bale). shape_of b.settings) _ g.value g.shape_after;
+      bins_after = left h _ e (λ (b : Bale). b.settings.bins) _ g.value g.bins_after;
+      kinds_after = left h _ e (λ (b : Bale). kinds_of b.note) _ g.value g.kinds_after;
+      numbers_after = left h _ e (λ (b : Bale). numbers_of b.note) _ g.value g.numbers_after;
     }

@@ -1,21 +1,17 @@
--- `lepsarvu::lepsarvu_write_file` meets its contract: the readings are decoded after the settings are looked at, and then the file is written.
--- Assumes nothing.
-use Rattle.lepsarvu.proofs.CodedNotes.{coded_stops, coded_note, handed}
+-- `lepsarvu::lepsarvu_write_file` meets its contract: the number of what is answered, and the size where there is one. Assumes nothing.
+use Rattle.lepsarvu.specs.Definitions.Exports.{coded_size}
+use Rattle.lepsarvu.proofs.CodedNotes.{coded_number}
+use Rattle.lepsarvu.proofs.Given.{number-is, left}
 use Rattle.lepsarvu.proofs.lepsarvu_write_file.Goals as goal
 
-pub returns-then-refusal-ne0 : goal.returns-then-refusal-ne0
-returns-then-refusal-ne0 c =
-    let e = rw c.settings-s.ensures at c.note_refusal-refusal.ensures in
-    let r = coded_stops _ _ _ _ _ _ _ c.coded_reading-drier.ensures c.coded_reading-press.ensures e c.if-refusal-ne0.true c.args.size.now in
-    record { value = r.0; file_after = r.1.0; size_after = r.1.1 }
-
 pub returns : goal.returns
+unfolding coded_size
 returns c =
-    let drier = c.coded_reading-drier.ensures in
-    let press = c.coded_reading-press.ensures in
-    let e = rw c.settings-s.ensures at c.note_refusal-refusal.ensures in
-    let a = rw c.settings-s.ensures at c.write_file-answer.ensures.value in
-    let f = rw c.settings-s.ensures at c.write_file-answer.ensures.file_after in
-    let g = c.give_size.ensures in
-    let r = handed _ _ _ _ _ _ _ drier press e c.if-refusal-ne0.false (coded_note _ _ _ _ drier press) a f g.value c.args.size.now g.size_after in
-    record { value = r.0; file_after = r.1.0; size_after = r.1.1 }
+    let h = coded_number c.settings-s.result c.args.drier_kind c.args.drier_number c.args.press_kind c.args.press_number c.args.levels.now c.args.file.now in
+    let e = c.write_coded.ensures in
+    rw (← c.settings-s.ensures)
+    (record {
+      value = number-is h _ e.value c.give.ensures.value;
+      file_after = e.file_after;
+      size_after = rw (number-is h _ e.value c.give.ensures.value) at (left h _ e.value (λ value. value) _ c.give.ensures.value c.give.ensures.place_after);
+    })

@@ -1,5 +1,6 @@
 -- `lepsarvu::pictures::lepsarvu_pgm_size` meets its contract, which is that of `pgm::pgm_size`. Assumes nothing.
-use Rattle.lepsarvu.proofs.PictureAnswers.{size_number, number-is, left}
+use Rattle.lepsarvu.proofs.PictureAnswers.{size_number}
+use Rattle.lepsarvu.proofs.Given.{number-is, left}
 use Rattle.lepsarvu.proofs.pictures.lepsarvu_pgm_size.Goals as goal
 
 pub returns : goal.returns

@@ -1,6 +1,7 @@
 -- `lepsarvu::pictures::lepsarvu_read_pgm` meets its contract, which is that of `pgm::read_pgm`. Assumes nothing.
 use Rattle.pgm.specs.declared.PictureSize.{PictureSize}
-use Rattle.lepsarvu.proofs.PictureAnswers.{read_number, number-is, left}
+use Rattle.lepsarvu.proofs.PictureAnswers.{read_number}
+use Rattle.lepsarvu.proofs.Given.{number-is, left}
 use Rattle.lepsarvu.proofs.pictures.lepsarvu_read_pgm.Goals as goal
 
 pub returns : goal.returns

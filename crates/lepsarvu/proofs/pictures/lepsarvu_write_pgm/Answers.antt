@@ -1,5 +1,6 @@
 -- `lepsarvu::pictures::lepsarvu_write_pgm` meets its contract, which is that of `pgm::write_pgm`. Assumes nothing.
-use Rattle.lepsarvu.proofs.PictureAnswers.{write_number, number-is, left}
+use Rattle.lepsarvu.proofs.PictureAnswers.{write_number}
+use Rattle.lepsarvu.proofs.Given.{number-is, left}
 use Rattle.lepsarvu.proofs.pictures.lepsarvu_write_pgm.Goals as goal
 
 pub returns : goal.returns
