@@ -1,5 +1,5 @@
 -- `bale::checking::indices_ok` meets its contract: each turn of its loop widens the range by one index. Assumes nothing.
-use mathlib.Core.Path.{◌≡◌, ◌∙◌}
+use mathlib.Core.Path.{◌∙◌}
 use Rattle.pyramid.proofs.IndexRanges.{ranged_start}
 use native.Mathlib.Omega.{arith}
 use Rattle.bale.proofs.WordLists.{chunk_index}

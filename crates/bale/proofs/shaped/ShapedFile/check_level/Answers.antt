@@ -1,5 +1,5 @@
 -- `bale::shaped::ShapedFile::check_level` meets its contract: the section, then its indices. Assumes nothing.
-use mathlib.Core.Path.{◌≡◌, sym, ap, ◌∙◌}
+use mathlib.Core.Path.{sym, ap, ◌∙◌}
 use native.Mathlib.Omega.{arith}
 use Rattle.refusals.specs.declared.Refusal.TheVariants.{Index}
 use Rattle.refusals.proofs.Outcomes.{refuses, accepts, none, passed_on}
