@@ -23,7 +23,7 @@ use Rattle.bale.specs.Definitions.Sections.{numbers_section}
 use Rattle.bale.specs.Definitions.Files.{shape_section, bins_from, bins_section, readings_section, level_section, level_sections, file_of, file_length}
 use Rattle.bale.specs.Definitions.Reader.{bins_place, readings_place, levels_place, levels_from}
 use Rattle.bale.proofs.WordLaws.{put_splice}
-use Rattle.bale.proofs.WordLists.{length-words, words_append, length-words_at, get_or-words_at}
+use Rattle.bale.proofs.WordLists.{indices_part, length-words, words_append, length-words_at, get_or-words_at}
 use Rattle.bale.proofs.LevelTrips.{length_level, length_indices}
 use Rattle.bale.proofs.FileLengths.{length_shape, length_bins, length_readings, length_file, length-bins_from}
 
@@ -180,10 +180,10 @@ indices_filled bytes at levels =
 
 -- the part of a level buffer that they fill
 pub part_filled : (s : Settings) (bytes : List ℕ) (l at from : ℕ) (levels : List ℤ) {nodes : ℕ} {new : List ℤ} → nodes ≡ nodes_at s l → from + nodes ≤ length levels
-    → new ≡ indices_at bytes (at + 2) (length (part from (from + nodes) levels))
+    → new ≡ indices_at (part (at + 2) (at + 2 + 2 * nodes) bytes) 0 (length (part from (from + nodes) levels))
     → put_mid from (from + nodes - from) levels new ≡ splice from (indices_at bytes (at + 2) (nodes_at s l)) levels
 part_filled s bytes l at from levels {nodes} {new} n room e =
-    let all : new ≡ indices_at bytes (at + 2) nodes = rw (part_long from nodes levels room) at e in
+    let all : new ≡ indices_at bytes (at + 2) nodes = (rw (part_long from nodes levels room) at e) ∙ indices_part bytes (at + 2) nodes in
     let long : length new ≡ nodes = ap length all ∙ length_indices bytes (at + 2) nodes in
     put_splice from (from + nodes - from) new levels (omega arith) ∙ rw (all, n)
 

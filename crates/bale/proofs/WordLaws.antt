@@ -105,10 +105,6 @@ index_back n h = rw (word_bits n h, index_bits (to_z w16 n)) (of_z-to_z {w = w16
 pub word_small : (m : ℤ) → SFits w16 m → index_word m < 65536
 word_small m f = rw (index_bits m) (Fits-of_z {w = w16} {z = m} f).fits
 
--- the index of a word is kept by 16 bits
-pub index_held : {m : ℤ} {n : ℕ} → m ≡ word_index n → n < 65536 → to_z w16 (of_z w16 m) ≡ word_index n
-index_held {m} {n} p h = rw (p, word_bits n h, of_z-to_z {w = w16} {n = n} (record { fits = h }))
-
 -- an index that the library reads from a number's bits
 pub index_read : {m : ℤ} (low high : ℕ) → low < 256 → high < 256 → m ≡ to_z w16 (low + high * 256) → to_z w16 (of_z w16 m) ≡ word_index (low + 256 * high)
 index_read low high l h e =

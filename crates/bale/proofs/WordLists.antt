@@ -1,14 +1,21 @@
 -- 16-bit numbers that stand in a list of bytes are read as themselves, and the numbers that are read stand there. Assumes nothing.
 use mathlib.Core.Path.{◌≡◌, refl, sym, ap, ap₂, ◌∙◌}
-use mathlib.Core.List.{List, [], ◌∷◌, ◌++◌, append_assoc}
-use Prim.Native.Nat.{ℕ, zero, suc, ◌+◌, ◌*◌, ◌/◌, ◌%◌, ◌≤◌, ◌<◌}
+use mathlib.Core.List.{List, [], ◌∷◌, ◌++◌, map, append_assoc}
+use Prim.Native.Nat.{ℕ, zero, suc, ◌+◌, ◌-◌, ◌*◌, ◌/◌, ◌%◌, ◌≤◌, ◌<◌}
 use native.Mathlib.Nat.{not-suc-le-zero, add-zero}
 use native.Mathlib.Omega.{arith}
-use lib.ListN.{length, get_or}
+use lib.IntN.{ℤ}
+use lib.ListN.{length, get_or, drop}
+use mir.Syntax.{w16}
+use mir.Val.{of_z, to_z}
+use Rattle.std.proofs.lemmas.List.{get_or-take, get_or-drop}
+use Rattle.std.specs.Simd.{first_chunks}
+use Rattle.mathematics.specs.Inner.Splices.{part}
+use Rattle.mathematics.proofs.Splices.{part_long, get_or-part}
 use Rattle.pyramid.specs.Definitions.Buffers.{Bytes}
-use Rattle.bale.specs.Definitions.Words.{le16, words, u16_at, words_at}
+use Rattle.bale.specs.Definitions.Words.{le16, words, word_index, u16_at, words_at, indices_at}
 use Rattle.bale.proofs.Stands.{Stands, stands_front, stands_back, stands_join}
-use Rattle.bale.proofs.WordLaws.{digits16, bytes16}
+use Rattle.bale.proofs.WordLaws.{digits16, bytes16, index_read}
 
 pub length-words : (ns : List ℕ) → length (words ns) ≡ 2 * length ns
 unfolding words le16
@@ -75,3 +82,45 @@ words_stand {bytes} at (suc n) all h =
 pub words_short : (bytes : List ℕ) → Bytes bytes → (at : ℕ) → u16_at bytes at < 65536
 unfolding u16_at
 words_short bytes all at = omega (arith, all at, all (at + 1))
+
+-- ---- numbers of a part, and of the pairs of bytes that the library makes of one
+
+module _ (bytes : List ℕ) (f t : ℕ) where
+  words_part : (k n : ℕ) → k + 2 * n ≤ t - f → words_at (part f t bytes) k n ≡ words_at bytes (f + k) n
+  unfolding words_at u16_at
+  words_part k zero h = refl
+  words_part k (suc n) h =
+      let low = get_or-part f t bytes 0 k (omega arith) in
+      let high = get_or-part f t bytes 0 (k + 1) (omega arith) in
+      let e : f + (k + 1) ≡ f + k + 1 = omega arith in
+      let e₂ : f + (k + 2) ≡ f + k + 2 = omega arith in
+      ap₂ ◌∷◌ (rw (low, high, e)) (words_part (k + 2) n (omega arith) ∙ rw e₂)
+
+pub indices_part : (bytes : List ℕ) (at n : ℕ) → indices_at (part at (at + 2 * n) bytes) 0 n ≡ indices_at bytes at n
+indices_part bytes at n = ap (map word_index) (words_part bytes at (at + 2 * n) 0 n (omega arith) ∙ rw add-zero)
+
+pub indices_whole : (bytes : List ℕ) (at n : ℕ) → at + 2 * n ≤ length bytes
+    → indices_at (part at (at + 2 * n) bytes) 0 (length (part at (at + 2 * n) bytes) / 2) ≡ indices_at bytes at n
+indices_whole bytes at n h =
+    let e : length (part at (at + 2 * n) bytes) / 2 ≡ n = omega (arith, part_long at (2 * n) bytes h) in rw e (indices_part bytes at n)
+
+chunk_at : (n i j : ℕ) (bytes d : List ℕ) → i < n → j < 2 → get_or (get_or (first_chunks 2 n bytes) i d) j 0 ≡ get_or bytes (2 * i + j) 0
+chunk_at zero i j bytes d h k = absurd (not-suc-le-zero h)
+chunk_at (suc n) zero j bytes d h k = let e : 2 * 0 + j ≡ j = omega arith in rw e (get_or-take 2 bytes j 0 k)
+chunk_at (suc n) (suc i) j bytes d h k =
+    let e : 2 + (2 * i + j) ≡ 2 * suc i + j = omega arith in
+    rw (← e) (chunk_at n i j (drop 2 bytes) d (omega arith) k ∙ get_or-drop 2 bytes (2 * i + j) 0)
+
+pub chunk_index : {m : ℤ} (bytes : List ℕ) (n i : ℕ) {chunks : List (List ℕ)} (d : List ℕ) → Bytes bytes → chunks ≡ first_chunks 2 n bytes → i < n
+    → m ≡ to_z w16 (get_or (get_or chunks i d) 0 0 + get_or (get_or chunks i d) 1 0 * 256) → to_z w16 (of_z w16 m) ≡ word_index (u16_at bytes (0 + 2 * i))
+unfolding u16_at
+chunk_index {m} bytes n i {chunks} d all e h p =
+    let low : get_or (get_or chunks i d) 0 0 ≡ get_or bytes (2 * i + 0) 0 =
+    ap (λ (cs : List (List ℕ)). get_or (get_or cs i d) 0 0) e ∙ chunk_at n i 0 bytes d h (omega arith)
+    in
+    let high : get_or (get_or chunks i d) 1 0 ≡ get_or bytes (2 * i + 1) 0 =
+    ap (λ (cs : List (List ℕ)). get_or (get_or cs i d) 1 0) e ∙ chunk_at n i 1 bytes d h (omega arith)
+    in
+    let e₀ : 2 * i + 0 ≡ 0 + 2 * i = omega arith in
+    let e₁ : 2 * i + 1 ≡ 0 + 2 * i + 1 = omega arith in
+    index_read _ _ (all (0 + 2 * i)) (all (0 + 2 * i + 1)) (rw (low, high, e₀, e₁) at p)

@@ -1,5 +1,5 @@
 // Which rule is broken first by the sections of a file (document 01, "Who can cause which refusal").
-ghost use Rattle.std.specs.Prelude.{◌≡◌, ◌+◌, ◌*◌, ◌≤◌, length};
+ghost use Rattle.std.specs.Prelude.{◌≡◌, ◌+◌, ◌*◌, ◌/◌, ◌≤◌, length};
 ghost use Rattle.refusals.specs.Definitions.Outcomes.{outcome};
 ghost use Rattle.mathematics.specs.Definitions.Tests.{all};
 ghost use Rattle.pyramid.specs.Definitions.Sizes.{nodes_at};
@@ -31,13 +31,13 @@ pub fn check_section(file: &[u8], at: usize, count: u16, size: usize) -> Result<
 }
 
 // Every index of a level times its bin lies within 4,096 of 0: the lowest and the highest do.
-fn indices_ok(file: &[u8], at: usize, count: usize, bin: u16) -> bool
-    requires { at + 2 * count ≤ length file.now }
-    ensures { result ≡ all (index_ok bin) (indices_at file.now at count) }
+fn indices_ok(indices: &[u8], bin: u16) -> bool
+    ensures { result ≡ all (index_ok bin) (indices_at indices.now 0 (length indices.now / 2)) }
 {
     let mut range = IndexRange { low: 0, high: 0 };
-    for i in 0..count {
-        range = pyramid::widened(range, words::index_in(file, at + 2 * i));
+    let (words, _) = indices.as_chunks::<2>();
+    for word in words {
+        range = pyramid::widened(range, i16::from_le_bytes(*word));
     }
     pyramid::range_ok(range, bin)
 }
@@ -75,10 +75,12 @@ impl ShapedFile<'_> {
         let nodes = self.shape.level_nodes(level);
         check_section(self.bytes, at, nodes, 2)?;
         let bins = self.shape.settings.bins;
-        if !indices_ok(self.bytes, at + 2, nodes as usize, bins[level as usize]) {
+        let end = at + 2 + 2 * nodes as usize;
+        let indices = &self.bytes[at + 2..end];
+        if !indices_ok(indices, bins[level as usize]) {
             return Err(Refusal::Index);
         }
-        Ok(at + 2 + 2 * nodes as usize)
+        Ok(end)
     }
 
     // The sections of all levels, and whether the file ends there.

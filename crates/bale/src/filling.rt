@@ -4,16 +4,17 @@ ghost use Rattle.bale.specs.Definitions.Words.{indices_at};
 ghost use Rattle.bale.specs.Definitions.Reader.{levels_in};
 ghost use Rattle.bale.specs.Definitions.Calls.{read_refusal};
 
+use crate::places;
 use crate::shaped::ShapedFile;
-use crate::{places, words};
 
-// The indices of a level's places, from a place of the file on.
-fn fill_indices(file: &[u8], at: usize, levels: &mut [i16])
-    requires { at + 2 * length levels.old ≤ length file.now }
-    ensures { levels.new ≡ indices_at file.now at (length levels.old) }
+// The indices of a level.
+fn fill_indices(indices: &[u8], levels: &mut [i16])
+    requires { length indices.now ≡ 2 * length levels.old }
+    ensures { levels.new ≡ indices_at indices.now 0 (length levels.old) }
 {
-    for (i, index) in levels.iter_mut().enumerate() {
-        *index = words::index_in(file, at + 2 * i);
+    let (words, _) = indices.as_chunks::<2>();
+    for (i, word) in words.iter().enumerate() {
+        levels[i] = i16::from_le_bytes(*word);
     }
 }
 
@@ -28,8 +29,10 @@ impl ShapedFile<'_> {
         let mut from = 0;
         for level in (0..=depth).rev() {
             let nodes = self.shape.level_nodes(level) as usize;
-            fill_indices(self.bytes, at + 2, &mut levels[from..from + nodes]);
-            at += 2 + 2 * nodes;
+            let end = at + 2 + 2 * nodes;
+            let indices = &self.bytes[at + 2..end];
+            fill_indices(indices, &mut levels[from..from + nodes]);
+            at = end;
             from += nodes;
         }
     }

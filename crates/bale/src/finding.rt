@@ -12,9 +12,10 @@ fn slot_in(file: &[u8], depth: u16, level: u16) -> u16
     ensures { result ≡ slot_in file.now depth level }
 {
     if level <= depth {
-        return words::u16_at(file, places::BINS + 2 + 2 * (depth - level) as usize);
+        words::u16_at(file, places::BINS + 2 + 2 * (depth - level) as usize)
+    } else {
+        0
     }
-    0
 }
 
 fn slots_in(file: &[u8], depth: u16) -> [u16; 7]

@@ -1,7 +1,7 @@
 // Numbers in a buffer of bytes, low byte first, and indices in two's complement (document 01, "Bale file").
 ghost use Rattle.std.specs.Prelude.{◌≡◌, ◌+◌, ◌≤◌, length, get_or};
 ghost use Rattle.mathematics.specs.Inner.Splices.{splice};
-ghost use Rattle.bale.specs.Definitions.Words.{le16, le32, u16_at, u32_at, index_word, word_index};
+ghost use Rattle.bale.specs.Definitions.Words.{le16, le32, u16_at, u32_at, index_word};
 
 // The byte at a place, and 0 past the end.
 pub fn byte_at(bytes: &[u8], at: usize) -> u8
@@ -29,14 +29,6 @@ pub fn u32_at(bytes: &[u8], at: usize) -> u32
         byte_at(bytes, at + 2),
         byte_at(bytes, at + 3),
     ])
-}
-
-// The index of the two bytes at a place inside.
-pub fn index_in(bytes: &[u8], at: usize) -> i16
-    requires { at + 2 ≤ length bytes.now }
-    ensures { result ≡ word_index (u16_at bytes.now at) }
-{
-    i16::from_le_bytes([bytes[at], bytes[at + 1]])
 }
 
 // Bytes, at a place.

@@ -6,4 +6,4 @@ use Rattle.bale.specs.Definitions.Words.{word_index, u16_at}
 use Rattle.bale.proofs.filling.fill_indices.Given as goal
 
 abbrev pub invariant-loop-i : goal.invariant-loop-i
-invariant-loop-i l = Filling 0 (length l.initial.levels) (λ (k : ℕ). word_index (u16_at l.file (l.at + 2 * k))) l.initial.levels l.levels l.i
+invariant-loop-i l = Filling 0 (length l.initial.levels) (λ (k : ℕ). word_index (u16_at l.indices (0 + 2 * k))) l.initial.levels l.levels l.i

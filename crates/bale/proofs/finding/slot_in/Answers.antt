@@ -8,6 +8,6 @@ pub returns-then-level-depth : goal.returns-then-level-depth
 unfolding slot_in
 returns-then-level-depth c = c.u16_at.ensures ∙ rw (le-leb _ _ c.if-level-depth.true)
 
-pub returns : goal.returns
+pub returns-else-level-depth : goal.returns-else-level-depth
 unfolding slot_in
-returns c = rw (lt-leb _ _ c.if-level-depth.false)
+returns-else-level-depth c = rw (lt-leb _ _ c.if-level-depth.false)
