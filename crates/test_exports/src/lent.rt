@@ -30,24 +30,12 @@ pub(crate) const BOUNDS_BEFORE: [u16; 7] = [60011, 60012, 60013, 60014, 60015, 6
 pub(crate) fn faulty(s: Settings, refusal: u16) -> Settings {
     let mut u = s;
     match refusal {
-        1 => {
-            u.rows = 130;
-        }
-        13 => {
-            u.depth = 7;
-        }
-        14 => {
-            u.columns = 8;
-        }
-        15 => {
-            u.rows = 8;
-        }
-        2 => {
-            u.kernel = 7;
-        }
-        3 => {
-            u.bins[0] = 0;
-        }
+        1 => u.rows = 130,
+        13 => u.depth = 7,
+        14 => u.columns = 8,
+        15 => u.rows = 8,
+        2 => u.kernel = 7,
+        3 => u.bins[0] = 0,
         _ => {}
     }
     u

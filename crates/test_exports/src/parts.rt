@@ -28,9 +28,9 @@ pub(crate) fn note(
     press_number: u32,
 ) -> Readings {
     Readings {
-        drier_kind: drier_kind,
-        drier_number: drier_number,
-        press_kind: press_kind,
-        press_number: press_number,
+        drier_kind,
+        drier_number,
+        press_kind,
+        press_number,
     }
 }

@@ -2,147 +2,177 @@
 use crate::lent::BEFORE;
 use crate::pgm_writing;
 use lepsarvu::pictures;
-use test_support::comparing::least;
-use test_support::fillers;
-use test_support::reporting::{Tally, checked, empty};
+use test_support::fillers::{byte_filler, fill};
+use test_support::reporting::Checks;
 
-// A reading into so many places of a filled buffer, and what it leaves: the sides and the pixels; a refused one, which has no pixels,
-// leaves all as it was.
-fn read(
-    t: Tally,
-    file: &[u8],
-    places: usize,
+// What a reader answers and leaves: the sides and the pixels; a refused one, which has no pixels, leaves all as it was.
+#[derive(Clone, Copy)]
+struct Left<'a> {
     refusal: u16,
-    sides: [u16; 2],
-    pixels: &[u8],
-) -> Tally {
+    columns: u16,
+    rows: u16,
+    pixels: &'a [u8],
+}
+
+fn accepted(columns: u16, rows: u16, pixels: &[u8]) -> Left {
+    Left {
+        refusal: 0,
+        columns,
+        rows,
+        pixels,
+    }
+}
+
+fn refused(refusal: u16) -> Left<'static> {
+    Left {
+        refusal,
+        columns: BEFORE,
+        rows: BEFORE,
+        pixels: b"",
+    }
+}
+
+// A reading into so many places of a filled buffer.
+fn check_reading(t: &mut Checks, file: &[u8], places: usize, e: Left) {
     let mut picture: [u8; 40] = [0; 40];
     let mut columns = BEFORE;
     let mut rows = BEFORE;
-    fillers::fill_bytes(&mut picture);
-    let n = least(places, 40);
-    let answer = pictures::lepsarvu_read_pgm(file, &mut picture[0..n], &mut columns, &mut rows);
-    let u = checked(
-        t,
-        answer == refusal && columns == sides[0] && rows == sides[1],
-    );
-    checked(u, pgm_writing::is_left(&picture, pixels))
+    fill(&mut picture, byte_filler);
+    let n = places.min(40);
+    let answer = pictures::lepsarvu_read_pgm(file, &mut picture[..n], &mut columns, &mut rows);
+    t.check(answer == e.refusal && columns == e.columns && rows == e.rows);
+    t.check(pgm_writing::is_left(&picture, e.pixels));
 }
 
 // The reader that is lent no picture, then the other.
-fn both(
-    t: Tally,
-    file: &[u8],
-    places: usize,
-    refusal: u16,
-    sides: [u16; 2],
-    pixels: &[u8],
-) -> Tally {
+fn check_both(t: &mut Checks, file: &[u8], places: usize, e: Left) {
     let mut columns = BEFORE;
     let mut rows = BEFORE;
     let answer = pictures::lepsarvu_check_pgm(file, &mut columns, &mut rows);
-    let u = checked(
-        t,
-        answer == refusal && columns == sides[0] && rows == sides[1],
-    );
-    read(u, file, places, refusal, sides, pixels)
+    t.check(answer == e.refusal && columns == e.columns && rows == e.rows);
+    check_reading(t, file, places, e);
 }
 
-// Both over a file of the same picture, 3 by 2.
-fn same(t: Tally, file: &[u8]) -> Tally {
-    both(t, file, 6, 0, [3, 2], b"\xC8\x00\xFF\n#5")
-}
+// Files of the same picture, 3 by 2: the single form; each white space; comments; five digits; pixels that look like white space
+// and a comment.
+const SAME: [&[u8]; 6] = [
+    b"P5\n3 2\n255\n\xC8\x00\xFF\n#5",
+    b"P5 3\t2\r255 \xC8\x00\xFF\n#5",
+    b"P5\r\n3 \n\t2\r\n255\t\xC8\x00\xFF\n#5",
+    b"P5\n# 9\n3 2\n#\n#\r# 9\n255\r\xC8\x00\xFF\n#5",
+    b"P5#9\n3#\n2#9 9\n255\n\xC8\x00\xFF\n#5",
+    b"P5\n00003 00002\n00255\n\xC8\x00\xFF\n#5",
+];
 
-// The single form; each white space; comments; five digits; pixels that look like white space and a comment.
-pub(crate) fn files() -> Tally {
-    let letters = b"ABCDEFGHIJKLMNOPQRSTUVWX";
-    let mut u = same(empty(), b"P5\n3 2\n255\n\xC8\x00\xFF\n#5");
-    u = same(u, b"P5 3\t2\r255 \xC8\x00\xFF\n#5");
-    u = same(u, b"P5\r\n3 \n\t2\r\n255\t\xC8\x00\xFF\n#5");
-    u = same(u, b"P5\n# 9\n3 2\n#\n#\r# 9\n255\r\xC8\x00\xFF\n#5");
-    u = same(u, b"P5#9\n3#\n2#9 9\n255\n\xC8\x00\xFF\n#5");
-    u = same(u, b"P5\n00003 00002\n00255\n\xC8\x00\xFF\n#5");
-    u = both(u, b"P5\n2 3\n255\n\n\r #9\n", 6, 0, [2, 3], b"\n\r #9\n");
-    both(
-        u,
+pub(crate) fn files() -> Checks {
+    let mut t = Checks::new();
+    for file in SAME {
+        check_both(&mut t, file, 6, accepted(3, 2, b"\xC8\x00\xFF\n#5"));
+    }
+    let space = accepted(2, 3, b"\n\r #9\n");
+    check_both(&mut t, b"P5\n2 3\n255\n\n\r #9\n", 6, space);
+    let letters = accepted(2, 12, b"ABCDEFGHIJKLMNOPQRSTUVWX");
+    check_both(
+        &mut t,
         b"P5 2 12 255\nABCDEFGHIJKLMNOPQRSTUVWX",
         24,
-        0,
-        [2, 12],
         letters,
-    )
+    );
+    t
 }
 
 // A picture that is too short or too long; the reader that is lent none does not mind.
-pub(crate) fn lengths() -> Tally {
-    let single = b"P5\n3 2\n255\n\xC8\x00\xFF\n#5";
-    let kept: [u16; 2] = [BEFORE, BEFORE];
-    let mut u = read(empty(), single, 0, 5, kept, b"");
-    u = read(u, single, 5, 5, kept, b"");
-    read(u, single, 7, 5, kept, b"")
-}
-
-// Both over a file that they refuse, with so many places lent.
-fn refuse(t: Tally, file: &[u8], places: usize, refusal: u16) -> Tally {
-    both(t, file, places, refusal, [BEFORE, BEFORE], b"")
+pub(crate) fn lengths() -> Checks {
+    let mut t = Checks::new();
+    for places in [0, 5, 7] {
+        check_reading(&mut t, SAME[0], places, refused(5));
+    }
+    t
 }
 
 // The start, a number, white space or the byte before the pixels is not there or another; a comment in the wrong place or without
 // end; six digits.
-pub(crate) fn headers() -> Tally {
-    let mut u = refuse(empty(), b"", 6, 16);
-    u = refuse(u, b"P", 6, 16);
-    u = refuse(u, b"P5", 6, 16);
-    u = refuse(u, b"P2\n3 2\n255\n\xC8\x00\xFF\n#5", 6, 16);
-    u = refuse(u, b"p5\n3 2\n255\n\xC8\x00\xFF\n#5", 6, 16);
-    u = refuse(u, b"\nP5\n3 2\n255\n\xC8\x00\xFF\n#5", 6, 16);
-    u = refuse(u, b"P53 2\n255\n\xC8\x00\xFF\n#5", 6, 16);
-    u = refuse(u, b"P5\n3\x0B2\n255\n\xC8\x00\xFF\n#5", 6, 16);
-    u = refuse(u, b"P5\n3 2\x0C255\n\xC8\x00\xFF\n#5", 6, 16);
-    u = refuse(u, b"P5\n3 +2\n255\n\xC8\x00\xFF\n#5", 6, 16);
-    u = refuse(u, b"P5\n3 2\n\xC8\x00\xFF\n#5", 6, 16);
-    u = refuse(u, b"P5\n3 2\n255", 6, 16);
-    u = refuse(u, b"P5\n3 2\n255\x0B\xC8\x00\xFF\n#5", 6, 16);
-    u = refuse(u, b"P5\n3 2\n255#9\n\xC8\x00\xFF\n#5", 6, 16);
-    u = refuse(u, b"P5\n3 2 #255 \xC8\x00\xFF\r#5", 6, 16);
-    u = refuse(u, b"P5\n000003 2\n255\n\xC8\x00\xFF\n#5", 6, 16);
-    u = refuse(u, b"P5\n3 000002\n255\n\xC8\x00\xFF\n#5", 6, 16);
-    refuse(u, b"P5\n3 2\n000255\n\xC8\x00\xFF\n#5", 6, 16)
+const HEADERS: [&[u8]; 18] = [
+    b"",
+    b"P",
+    b"P5",
+    b"P2\n3 2\n255\n\xC8\x00\xFF\n#5",
+    b"p5\n3 2\n255\n\xC8\x00\xFF\n#5",
+    b"\nP5\n3 2\n255\n\xC8\x00\xFF\n#5",
+    b"P53 2\n255\n\xC8\x00\xFF\n#5",
+    b"P5\n3\x0B2\n255\n\xC8\x00\xFF\n#5",
+    b"P5\n3 2\x0C255\n\xC8\x00\xFF\n#5",
+    b"P5\n3 +2\n255\n\xC8\x00\xFF\n#5",
+    b"P5\n3 2\n\xC8\x00\xFF\n#5",
+    b"P5\n3 2\n255",
+    b"P5\n3 2\n255\x0B\xC8\x00\xFF\n#5",
+    b"P5\n3 2\n255#9\n\xC8\x00\xFF\n#5",
+    b"P5\n3 2 #255 \xC8\x00\xFF\r#5",
+    b"P5\n000003 2\n255\n\xC8\x00\xFF\n#5",
+    b"P5\n3 000002\n255\n\xC8\x00\xFF\n#5",
+    b"P5\n3 2\n000255\n\xC8\x00\xFF\n#5",
+];
+
+pub(crate) fn headers() -> Checks {
+    let mut t = Checks::new();
+    for file in HEADERS {
+        check_both(&mut t, file, 6, refused(16));
+    }
+    t
+}
+
+// A file, the places that are lent, and the refusal of both readers.
+type Refused = (&'static [u8], usize, u16);
+
+fn check_each(files: &[Refused]) -> Checks {
+    let mut t = Checks::new();
+    for (file, places, refusal) in files {
+        check_both(&mut t, file, *places, refused(*refusal));
+    }
+    t
 }
 
 // A side outside 2 to 129, or 65,536 more than a lawful one; a greatest grey that is not 255; a pixel too few or too many.
-pub(crate) fn refusals() -> Tally {
-    let mut u = refuse(empty(), b"P5\n1 6\n255\n\xC8\x00\xFF\n#5", 6, 1);
-    u = refuse(u, b"P5\n0 6\n255\n", 0, 1);
-    u = refuse(u, b"P5\n130 2\n255\n\xC8\x00\xFF\n#5", 6, 1);
-    u = refuse(u, b"P5\n65538 3\n255\n\xC8\x00\xFF\n#5", 6, 1);
-    u = refuse(u, b"P5\n6 1\n255\n\xC8\x00\xFF\n#5", 6, 1);
-    u = refuse(u, b"P5\n6 0\n255\n", 0, 1);
-    u = refuse(u, b"P5\n2 130\n255\n\xC8\x00\xFF\n#5", 6, 1);
-    u = refuse(u, b"P5\n3 65538\n255\n\xC8\x00\xFF\n#5", 6, 1);
-    u = refuse(u, b"P5\n3 2\n254\n\xC8\x00\xFF\n#5", 6, 17);
-    u = refuse(u, b"P5\n3 2\n256\n\xC8\x00\xFF\n#5", 6, 17);
-    u = refuse(u, b"P5\n3 2\n65791\n\xC8\x00\xFF\n#5", 6, 17);
-    u = refuse(u, b"P5\n3 2\n255\n", 6, 18);
-    u = refuse(u, b"P5\n3 2\n255\n\xC8\x00\xFF\n#", 6, 18);
-    u = refuse(u, b"P5\n3 2\n255\n\xC8\x00\xFF\n#5\n", 6, 18);
-    refuse(u, b"P5\n3 2\n255\r\n\xC8\x00\xFF\n#5", 6, 18)
+const REFUSED: [Refused; 15] = [
+    (b"P5\n1 6\n255\n\xC8\x00\xFF\n#5", 6, 1),
+    (b"P5\n0 6\n255\n", 0, 1),
+    (b"P5\n130 2\n255\n\xC8\x00\xFF\n#5", 6, 1),
+    (b"P5\n65538 3\n255\n\xC8\x00\xFF\n#5", 6, 1),
+    (b"P5\n6 1\n255\n\xC8\x00\xFF\n#5", 6, 1),
+    (b"P5\n6 0\n255\n", 0, 1),
+    (b"P5\n2 130\n255\n\xC8\x00\xFF\n#5", 6, 1),
+    (b"P5\n3 65538\n255\n\xC8\x00\xFF\n#5", 6, 1),
+    (b"P5\n3 2\n254\n\xC8\x00\xFF\n#5", 6, 17),
+    (b"P5\n3 2\n256\n\xC8\x00\xFF\n#5", 6, 17),
+    (b"P5\n3 2\n65791\n\xC8\x00\xFF\n#5", 6, 17),
+    (b"P5\n3 2\n255\n", 6, 18),
+    (b"P5\n3 2\n255\n\xC8\x00\xFF\n#", 6, 18),
+    (b"P5\n3 2\n255\n\xC8\x00\xFF\n#5\n", 6, 18),
+    (b"P5\n3 2\n255\r\n\xC8\x00\xFF\n#5", 6, 18),
+];
+
+pub(crate) fn refusals() -> Checks {
+    check_each(&REFUSED)
 }
 
 // Each refusal with all later ones besides, and with each of them alone.
-pub(crate) fn order() -> Tally {
-    let mut u = refuse(empty(), b"P5\n1 2\n254#\xC8", 5, 16);
-    u = refuse(u, b"P5\n1 6\n255#\xC8\x00\xFF\n#5", 6, 16);
-    u = refuse(u, b"P5\n3 2\n254#\xC8\x00\xFF\n#5", 6, 16);
-    u = refuse(u, b"P5\n3 2\n255#\xC8\x00\xFF\n#", 6, 16);
-    u = refuse(u, b"P5\n3 2\n255#\xC8\x00\xFF\n#5", 5, 16);
-    u = refuse(u, b"P5\n1 2\n254\n\xC8", 5, 1);
-    u = refuse(u, b"P5\n6 1\n256\n\xC8\x00\xFF\n#5", 6, 1);
-    u = refuse(u, b"P5\n6 1\n255\n\xC8\x00\xFF\n#", 6, 1);
-    u = refuse(u, b"P5\n6 1\n255\n\xC8\x00\xFF\n#5", 5, 1);
-    u = refuse(u, b"P5\n3 2\n254\n\xC8\x00\xFF\n#", 5, 17);
-    u = refuse(u, b"P5\n3 2\n254\n\xC8\x00\xFF\n#", 6, 17);
-    u = refuse(u, b"P5\n3 2\n256\n\xC8\x00\xFF\n#5", 7, 17);
-    u = refuse(u, b"P5\n3 2\n255\n\xC8\x00\xFF\n#", 5, 18);
-    refuse(u, b"P5\n3 2\n255\n\xC8\x00\xFF\n#5\n", 7, 18)
+const ORDER: [Refused; 14] = [
+    (b"P5\n1 2\n254#\xC8", 5, 16),
+    (b"P5\n1 6\n255#\xC8\x00\xFF\n#5", 6, 16),
+    (b"P5\n3 2\n254#\xC8\x00\xFF\n#5", 6, 16),
+    (b"P5\n3 2\n255#\xC8\x00\xFF\n#", 6, 16),
+    (b"P5\n3 2\n255#\xC8\x00\xFF\n#5", 5, 16),
+    (b"P5\n1 2\n254\n\xC8", 5, 1),
+    (b"P5\n6 1\n256\n\xC8\x00\xFF\n#5", 6, 1),
+    (b"P5\n6 1\n255\n\xC8\x00\xFF\n#", 6, 1),
+    (b"P5\n6 1\n255\n\xC8\x00\xFF\n#5", 5, 1),
+    (b"P5\n3 2\n254\n\xC8\x00\xFF\n#", 5, 17),
+    (b"P5\n3 2\n254\n\xC8\x00\xFF\n#", 6, 17),
+    (b"P5\n3 2\n256\n\xC8\x00\xFF\n#5", 7, 17),
+    (b"P5\n3 2\n255\n\xC8\x00\xFF\n#", 5, 18),
+    (b"P5\n3 2\n255\n\xC8\x00\xFF\n#5\n", 7, 18),
+];
+
+pub(crate) fn order() -> Checks {
+    check_each(&ORDER)
 }

@@ -1,115 +1,159 @@
 // PGM pictures that are written, byte after byte as document 02 has them (P2).
 use crate::lent::BEFORE;
 use lepsarvu::pictures;
-use test_support::comparing::least;
-use test_support::reporting::{Tally, checked, empty};
-use test_support::{comparing, fillers};
+use test_support::comparing::first_difference;
+use test_support::fillers::{byte_filler, fill, first_changed};
+use test_support::reporting::Checks;
 
-// An answer, and the size that the call leaves.
-fn size(t: Tally, columns: u16, rows: u16, refusal: u16, left: u16) -> Tally {
-    let mut size = BEFORE as usize;
-    let answer = pictures::lepsarvu_pgm_size(columns, rows, &mut size);
-    checked(t, answer == refusal && size == left as usize)
-}
+// Columns and rows; the answer, and the size that the call leaves: 9 and the digits of both sides and the pixels. A refused size
+// leaves the number as it was.
+const SIZES: [(u16, u16, u16, u16); 10] = [
+    (3, 2, 0, 17),
+    (9, 10, 0, 102),
+    (100, 99, 0, 9914),
+    (129, 129, 0, 16656),
+    (1, 2, 1, BEFORE),
+    (130, 2, 1, BEFORE),
+    (65535, 2, 1, BEFORE),
+    (2, 1, 1, BEFORE),
+    (2, 130, 1, BEFORE),
+    (2, 65535, 1, BEFORE),
+];
 
-// 9 and the digits of both sides and the pixels; a refused size leaves the number as it was.
-pub(crate) fn sizes() -> Tally {
-    let mut u = size(empty(), 3, 2, 0, 17);
-    u = size(u, 9, 10, 0, 102);
-    u = size(u, 100, 99, 0, 9914);
-    u = size(u, 129, 129, 0, 16656);
-    u = size(u, 1, 2, 1, BEFORE);
-    u = size(u, 130, 2, 1, BEFORE);
-    u = size(u, 65535, 2, 1, BEFORE);
-    u = size(u, 2, 1, 1, BEFORE);
-    u = size(u, 2, 130, 1, BEFORE);
-    size(u, 2, 65535, 1, BEFORE)
+pub(crate) fn sizes() -> Checks {
+    let mut t = Checks::new();
+    for (columns, rows, refusal, left) in SIZES {
+        let mut size = usize::from(BEFORE);
+        let answer = pictures::lepsarvu_pgm_size(columns, rows, &mut size);
+        t.check(answer == refusal && size == usize::from(left));
+    }
+    t
 }
 
 // Whether a filled buffer starts with these bytes, and keeps its fillers after them. No byte that is tried is the filler of its place.
 pub(crate) fn is_left(buffer: &[u8; 40], bytes: &[u8]) -> bool {
     let n = bytes.len();
-    comparing::bytes(buffer, bytes, n) == n && fillers::first_changed_byte(buffer, n) == 40
+    first_difference(buffer, bytes, n).is_none() && first_changed(buffer, n, byte_filler).is_none()
+}
+
+// A picture of so many columns and rows.
+#[derive(Clone, Copy)]
+pub(crate) struct Picture<'a> {
+    pub columns: u16,
+    pub rows: u16,
+    pub pixels: &'a [u8],
 }
 
 // A writing into so many bytes of a filled buffer, and what it leaves: the file and its size; a refused one, of which the file is
 // empty, leaves both as they were.
-pub(crate) fn written(
-    t: Tally,
-    columns: u16,
-    rows: u16,
-    picture: &[u8],
-    room: usize,
-    refusal: u16,
-    file: &[u8],
-) -> Tally {
+pub(crate) fn check(t: &mut Checks, p: Picture, room: usize, refusal: u16, file: &[u8]) {
     let mut out: [u8; 40] = [0; 40];
-    let mut size = BEFORE as usize;
-    fillers::fill_bytes(&mut out);
-    let n = least(room, 40);
-    let answer = pictures::lepsarvu_write_pgm(columns, rows, picture, &mut out[0..n], &mut size);
-    let mut left = BEFORE as usize;
-    if refusal == 0 {
-        left = file.len();
-    }
-    let u = checked(t, answer == refusal && size == left);
-    checked(u, is_left(&out, file))
+    let mut size = usize::from(BEFORE);
+    fill(&mut out, byte_filler);
+    let n = room.min(40);
+    let answer = pictures::lepsarvu_write_pgm(
+        p.columns,
+        p.rows,
+        p.pixels,
+        &mut out[..n],
+        &mut size,
+    );
+    let left = if refusal == 0 {
+        file.len()
+    } else {
+        usize::from(BEFORE)
+    };
+    t.check(answer == refusal && size == left);
+    t.check(is_left(&out, file));
 }
 
-// The exact bytes, and more; piece A; sides of two digits.
-pub(crate) fn accepted() -> Tally {
-    let pixels = b"\xC8\x00\xFF\n#5";
-    let file = b"P5\n3 2\n255\n\xC8\x00\xFF\n#5";
-    let mut u = written(empty(), 3, 2, pixels, 17, 0, file);
-    u = written(u, 3, 2, pixels, 40, 0, file);
-    u = written(
-        u,
+// A picture, the bytes that are lent, and the file: the exact bytes, and more; piece A; sides of two digits.
+const ACCEPTED: [(u16, u16, &[u8], usize, &[u8]); 5] = [
+    (
+        3,
+        2,
+        b"\xC8\x00\xFF\n#5",
+        17,
+        b"P5\n3 2\n255\n\xC8\x00\xFF\n#5",
+    ),
+    (
+        3,
+        2,
+        b"\xC8\x00\xFF\n#5",
+        40,
+        b"P5\n3 2\n255\n\xC8\x00\xFF\n#5",
+    ),
+    (
         3,
         3,
         b"\x00\x00\x00\x00\x64\x00\x00\x00\x00",
         21,
-        0,
         b"P5\n3 3\n255\n\x00\x00\x00\x00\x64\x00\x00\x00\x00",
-    );
-    u = written(
-        u,
+    ),
+    (
         2,
         10,
         b"ABCDEFGHIJKLMNOPQRST",
         40,
-        0,
         b"P5\n2 10\n255\nABCDEFGHIJKLMNOPQRST",
-    );
-    written(
-        u,
+    ),
+    (
         12,
         2,
         b"ABCDEFGHIJKLMNOPQRSTUVWX",
         40,
-        0,
         b"P5\n12 2\n255\nABCDEFGHIJKLMNOPQRSTUVWX",
-    )
+    ),
+];
+
+pub(crate) fn accepted() -> Checks {
+    let mut t = Checks::new();
+    for (columns, rows, pixels, room, file) in ACCEPTED {
+        let p = Picture {
+            columns,
+            rows,
+            pixels,
+        };
+        check(&mut t, p, room, 0, file);
+    }
+    t
 }
 
+const FIVE: &[u8] = b"\xC8\x00\xFF\n#";
+
+const SIX: &[u8] = b"\xC8\x00\xFF\n#5";
+
+const SEVEN: &[u8] = b"\xC8\x00\xFF\n#5\x07";
+
 // Each refusal alone, and with the later ones besides.
-pub(crate) fn refusals() -> Tally {
-    let five = b"\xC8\x00\xFF\n#";
-    let six = b"\xC8\x00\xFF\n#5";
-    let seven = b"\xC8\x00\xFF\n#5\x07";
-    let mut u = written(empty(), 1, 6, six, 40, 1, b"");
-    u = written(u, 6, 1, six, 40, 1, b"");
-    u = written(u, 130, 2, six, 40, 1, b"");
-    u = written(u, 2, 130, six, 40, 1, b"");
-    u = written(u, 65535, 2, five, 16, 1, b"");
-    u = written(u, 2, 65535, five, 16, 1, b"");
-    u = written(u, 1, 6, five, 40, 1, b"");
-    u = written(u, 6, 1, six, 16, 1, b"");
-    u = written(u, 3, 2, five, 40, 5, b"");
-    u = written(u, 3, 2, seven, 40, 5, b"");
-    u = written(u, 3, 2, b"", 40, 5, b"");
-    u = written(u, 3, 2, five, 16, 5, b"");
-    u = written(u, 3, 2, seven, 0, 5, b"");
-    u = written(u, 3, 2, six, 16, 8, b"");
-    u = written(u, 3, 2, six, 11, 8, b"");
-    written(u, 3, 2, six, 0, 8, b"")
+const REFUSED: [(u16, u16, &[u8], usize, u16); 16] = [
+    (1, 6, SIX, 40, 1),
+    (6, 1, SIX, 40, 1),
+    (130, 2, SIX, 40, 1),
+    (2, 130, SIX, 40, 1),
+    (65535, 2, FIVE, 16, 1),
+    (2, 65535, FIVE, 16, 1),
+    (1, 6, FIVE, 40, 1),
+    (6, 1, SIX, 16, 1),
+    (3, 2, FIVE, 40, 5),
+    (3, 2, SEVEN, 40, 5),
+    (3, 2, b"", 40, 5),
+    (3, 2, FIVE, 16, 5),
+    (3, 2, SEVEN, 0, 5),
+    (3, 2, SIX, 16, 8),
+    (3, 2, SIX, 11, 8),
+    (3, 2, SIX, 0, 8),
+];
+
+pub(crate) fn refusals() -> Checks {
+    let mut t = Checks::new();
+    for (columns, rows, pixels, room, refusal) in REFUSED {
+        let p = Picture {
+            columns,
+            rows,
+            pixels,
+        };
+        check(&mut t, p, room, refusal, b"");
+    }
+    t
 }

@@ -1,7 +1,9 @@
 // Coding and rebuilding of 3 columns and 5 rows, N = 1, k = 6, bins 7 and 2. What is expected comes from tests/reference.
 use pyramid::Settings;
-use test_support::reporting::{Tally, checked, empty};
-use test_support::{comparing, fillers};
+use std::array;
+use test_support::comparing::first_difference;
+use test_support::fillers::{byte_filler, first_changed, index_filler, work_filler};
+use test_support::reporting::Checks;
 
 pub(crate) const SETTINGS: Settings = Settings {
     columns: 3,
@@ -20,113 +22,99 @@ const INDICES: [i16; 21] = [
     41, 54, 59, 41, 47, 39, -10, 23, -15, -2, -14, 6, -10, 14, -5, 20, -12, 0, 5, -11, 22,
 ];
 
+const BINS: [u16; 7] = [7, 2, 0, 0, 0, 0, 0];
+
 // Coding of the picture leaves the indices and the averages.
-fn coded(t: Tally) -> Tally {
-    let bins: [u16; 7] = [7, 2, 0, 0, 0, 0, 0];
+fn check_coded(t: &mut Checks) {
     let picture: [u8; 15] = [
         0, 255, 17, 90, 3, 140, 61, 200, 38, 250, 12, 77, 129, 5, 231,
     ];
     let averages: [i32; 21] = [
         83, 109, 118, 83, 95, 79, 0, 255, 17, 90, 3, 140, 61, 200, 38, 250, 12, 77, 129, 5, 231,
     ];
-    let indices = INDICES;
-    let mut levels: [i16; 21] = [0; 21];
-    let mut work: [i32; 24] = [0; 24];
-    fillers::fill_indices(&mut levels, false);
-    fillers::fill_work(&mut work);
-    let answer = lepsarvu::lepsarvu_coding(3, 5, 1, 6, &bins, &picture, &mut levels, &mut work);
-    let mut u = checked(t, answer == 0);
-    u = checked(u, comparing::levels(&levels, &indices, 21) == 21);
-    u = checked(u, comparing::work(&work, &averages, 21) == 21);
-    checked(u, fillers::first_changed_work(&work, 21) == 24)
+    let mut levels: [i16; 21] = array::from_fn(|i| index_filler(false, i));
+    let mut work: [i32; 24] = array::from_fn(work_filler);
+    let answer = lepsarvu::lepsarvu_coding(3, 5, 1, 6, &BINS, &picture, &mut levels, &mut work);
+    t.check(answer == 0);
+    t.check(levels == INDICES);
+    t.check(first_difference(&work, &averages, 21).is_none());
+    t.check(first_changed(&work, 21, work_filler).is_none());
 }
 
 // Rebuilding from the indices leaves the picture, whose first pixel is clamped, and the unclamped values.
-fn rebuilt(t: Tally) -> Tally {
-    let bins: [u16; 7] = [7, 2, 0, 0, 0, 0, 0];
-    let indices = INDICES;
+fn check_rebuilt(t: &mut Checks) {
     let values: [i32; 21] = [
         82, 108, 118, 82, 94, 78, -3, 255, 16, 87, 0, 136, 63, 200, 36, 251, 9, 75, 127, 6, 229,
     ];
     let pixels: [u8; 15] = [0, 255, 16, 87, 0, 136, 63, 200, 36, 251, 9, 75, 127, 6, 229];
     let mut picture: [u8; 15] = [99; 15];
-    let mut work: [i32; 24] = [0; 24];
-    fillers::fill_work(&mut work);
+    let mut work: [i32; 24] = array::from_fn(work_filler);
     let answer = lepsarvu::lepsarvu_rebuilding(
         3,
         5,
         1,
         6,
-        &bins,
-        &indices,
+        &BINS,
+        &INDICES,
         &mut picture,
         &mut work,
     );
-    let mut u = checked(t, answer == 0);
-    u = checked(u, comparing::bytes(&picture, &pixels, 15) == 15);
-    u = checked(u, comparing::work(&work, &values, 21) == 21);
-    checked(u, fillers::first_changed_work(&work, 21) == 24)
+    t.check(answer == 0);
+    t.check(picture == pixels);
+    t.check(first_difference(&work, &values, 21).is_none());
+    t.check(first_changed(&work, 21, work_filler).is_none());
 }
 
-pub(crate) fn accepted() -> Tally {
-    rebuilt(coded(empty()))
+pub(crate) fn accepted() -> Checks {
+    let mut t = Checks::new();
+    check_coded(&mut t);
+    check_rebuilt(&mut t);
+    t
 }
 
-// Rebuilding of 3 columns and 2 rows, N = 0, k = 5, from one index that is not 0: its value and its pixel, or refusal 11.
-fn rebuilt_from(t: Tally, bin: u16, index: i16, value: i32, pixel: u8) -> Tally {
-    let bins: [u16; 7] = [bin, 0, 0, 0, 0, 0, 0];
-    let indices: [i16; 6] = [0, 0, 0, index, 0, 0];
-    let values: [i32; 6] = [0, 0, 0, value, 0, 0];
-    let pixels: [u8; 6] = [0, 0, 0, pixel, 0, 0];
-    let mut picture: [u8; 6] = [99; 6];
-    let mut work: [i32; 7] = [0; 7];
-    fillers::fill_work(&mut work);
-    let answer = lepsarvu::lepsarvu_rebuilding(
+// Rebuilding of 3 columns and 2 rows, N = 0, k = 5, from one index that is not 0.
+fn rebuilding(bin: u16, index: i16, picture: &mut [u8; 6], work: &mut [i32; 7]) -> u16 {
+    lepsarvu::lepsarvu_rebuilding(
         3,
         2,
         0,
         5,
-        &bins,
-        &indices,
-        &mut picture,
-        &mut work,
-    );
-    let mut u = checked(t, answer == 0);
-    u = checked(u, comparing::bytes(&picture, &pixels, 6) == 6);
-    u = checked(u, comparing::work(&work, &values, 6) == 6);
-    checked(u, fillers::first_changed_work(&work, 6) == 7)
+        &[bin, 0, 0, 0, 0, 0, 0],
+        &[0, 0, 0, index, 0, 0],
+        picture,
+        work,
+    )
 }
 
-fn refused_from(t: Tally, bin: u16, index: i16) -> Tally {
-    let bins: [u16; 7] = [bin, 0, 0, 0, 0, 0, 0];
-    let indices: [i16; 6] = [0, 0, 0, index, 0, 0];
-    let mut picture: [u8; 6] = [0; 6];
-    let mut work: [i32; 7] = [0; 7];
-    fillers::fill_bytes(&mut picture);
-    fillers::fill_work(&mut work);
-    let answer = lepsarvu::lepsarvu_rebuilding(
-        3,
-        2,
-        0,
-        5,
-        &bins,
-        &indices,
-        &mut picture,
-        &mut work,
-    );
-    let mut u = checked(t, answer == 11);
-    u = checked(u, fillers::first_changed_byte(&picture, 0) == 6);
-    checked(u, fillers::first_changed_work(&work, 0) == 7)
-}
+// A bin, the index, its value and its pixel: index times bin of exactly 4,096 and -4,096.
+const REBUILT: [(u16, i16, i32, u8); 4] = [
+    (1, 4096, 4096, 255),
+    (1, -4096, -4096, 0),
+    (64, 64, 4096, 255),
+    (64, -64, -4096, 0),
+];
 
-// Index times bin of exactly 4,096 and -4,096, and of 4,097 and -4,097.
-pub(crate) fn limits() -> Tally {
-    let mut u = rebuilt_from(empty(), 1, 4096, 4096, 255);
-    u = rebuilt_from(u, 1, -4096, -4096, 0);
-    u = rebuilt_from(u, 64, 64, 4096, 255);
-    u = rebuilt_from(u, 64, -64, -4096, 0);
-    u = refused_from(u, 1, 4097);
-    u = refused_from(u, 1, -4097);
-    u = refused_from(u, 17, 241);
-    refused_from(u, 17, -241)
+// Index times bin of 4,097 and -4,097: 11.
+const REFUSED: [(u16, i16); 4] = [(1, 4097), (1, -4097), (17, 241), (17, -241)];
+
+pub(crate) fn limits() -> Checks {
+    let mut t = Checks::new();
+    for (bin, index, value, pixel) in REBUILT {
+        let mut picture: [u8; 6] = [99; 6];
+        let mut work: [i32; 7] = array::from_fn(work_filler);
+        let answer = rebuilding(bin, index, &mut picture, &mut work);
+        t.check(answer == 0);
+        t.check(picture == [0, 0, 0, pixel, 0, 0]);
+        t.check(first_difference(&work, &[0, 0, 0, value, 0, 0], 6).is_none());
+        t.check(first_changed(&work, 6, work_filler).is_none());
+    }
+    for (bin, index) in REFUSED {
+        let mut picture: [u8; 6] = array::from_fn(byte_filler);
+        let mut work: [i32; 7] = array::from_fn(work_filler);
+        let answer = rebuilding(bin, index, &mut picture, &mut work);
+        t.check(answer == 11);
+        t.check(first_changed(&picture, 0, byte_filler).is_none());
+        t.check(first_changed(&work, 0, work_filler).is_none());
+    }
+    t
 }

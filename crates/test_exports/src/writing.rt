@@ -2,49 +2,47 @@
 use crate::lent::BEFORE;
 use crate::parts::Readings;
 use pyramid::Settings;
-use test_support::comparing::least;
-use test_support::{comparing, fillers};
+use test_support::comparing::first_difference;
+use test_support::fillers::{byte_filler, fill, first_changed};
 
-// What a writing leaves: the file, and the bytes after it as they were; a refused one leaves all as it was.
-fn is_left(out: &[u8; 176], refusal: u16, file: &[u8]) -> bool {
-    if refusal != 0 {
-        return fillers::first_changed_byte(out, 0) == 176;
-    }
-    let n = file.len();
-    comparing::bytes(file, out, n) == n && fillers::first_changed_byte(out, n) == 176
+// What is written: settings, readings and levels.
+#[derive(Clone, Copy)]
+pub(crate) struct Contents<'a> {
+    pub settings: Settings,
+    pub readings: Readings,
+    pub levels: &'a [i16],
 }
 
-// Whether a writing into so many bytes of a filled buffer gives the answer, and the file and its size; a refused one leaves both.
-pub(crate) fn gives(
-    s: Settings,
-    r: Readings,
-    levels: &[i16],
-    room: usize,
-    refusal: u16,
-    file: &[u8],
-) -> bool {
-    let bins = s.bins;
+// Whether a writing into so many bytes of a filled buffer gives the answer, and the file and its size, with the bytes after it as
+// they were; a refused one leaves all as it was.
+pub(crate) fn gives(c: Contents, room: usize, refusal: u16, file: &[u8]) -> bool {
+    let s = c.settings;
+    let r = c.readings;
     let mut out: [u8; 176] = [0; 176];
-    let mut size = BEFORE as usize;
-    fillers::fill_bytes(&mut out);
-    let n = least(room, 176);
+    let mut size = usize::from(BEFORE);
+    fill(&mut out, byte_filler);
+    let n = room.min(176);
     let answer = lepsarvu::lepsarvu_write_file(
         s.columns,
         s.rows,
         s.depth,
         s.kernel,
-        &bins,
+        &s.bins,
         r.drier_kind,
         r.drier_number,
         r.press_kind,
         r.press_number,
-        levels,
-        &mut out[0..n],
+        c.levels,
+        &mut out[..n],
         &mut size,
     );
-    let mut left = BEFORE as usize;
-    if refusal == 0 {
-        left = file.len();
-    }
-    answer == refusal && size == left && is_left(&out, refusal, file)
+    let (left, written) = if refusal == 0 {
+        (file.len(), file.len())
+    } else {
+        (usize::from(BEFORE), 0)
+    };
+    answer == refusal
+        && size == left
+        && first_difference(file, &out, written).is_none()
+        && first_changed(&out, written, byte_filler).is_none()
 }
