@@ -31,7 +31,7 @@ fn put_digits(n: u32, buffer: &mut [u8], end: usize)
     ensures { buffer.new ≡
         splice (end - length (decimal n)) (decimal n) buffer.old }
 {
-    buffer[end - 1] = 48 + (n % 10) as u8;
+    buffer[end - 1] = b'0' + (n % 10) as u8;
     if 10 <= n {
         put_digits(n / 10, buffer, end - 1);
     }

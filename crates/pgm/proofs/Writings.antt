@@ -12,7 +12,7 @@ use lib.Seq.{drop-drop}
 use Rattle.std.proofs.Common.{Option, Some, Result, Ok, Err}
 use Rattle.std.specs.Option.{IsSome}
 use Rattle.mathematics.specs.Inner.Splices.{splice}
-use Rattle.mathematics.proofs.Splices.{splice-set, splice_append, splice_front, length-splice}
+use Rattle.mathematics.proofs.Splices.{splice-set, splice_append, splice_front}
 use Rattle.decimals.specs.Definitions.Text.{decimal}
 use Rattle.decimals.proofs.Counting.{decimal_one, decimal-more, count_most, Put, put_room}
 use Rattle.refusals.specs.declared.Refusal.{Refusal}
@@ -90,15 +90,6 @@ module _ (n at : ℕ) (l : List ℕ) {w : List ℕ} {o : Option ℕ} (room : at 
   module _ {count : ℕ} (is : o ≡ Some count) where
     counted : count ≡ length (decimal n)
     counted = let same : Some count ≡ Some (length (decimal n)) = sym is ∙ there.0 in cc
-
-    pub then_end : at + count < length l
-    then_end = omega (arith, counted)
-
-    -- the byte has its place
-    pub then_inside : at + count < length w
-    then_inside =
-        let same : length w ≡ length l = rw there.1 (length-splice at (decimal n) l (omega arith)) in
-        omega (arith, then_end)
 
     pub put_then : (space : ℕ) → (at + count + 1 ≡ at + (length (decimal n) + 1)) × (set w (at + count) space ≡ splice at (number_then n space) l)
     unfolding number_then
