@@ -5,6 +5,8 @@ use std::io;
 use std::io::Read;
 
 // Reads until the input ends or the buffer is full, and answers how many bytes were read.
+// Kept beside test_support's function of this kind: a program of the product stands on no crate of its tests, and std's `read_exact` doesn't
+// say how much there was.
 pub(crate) fn read_all<R: Read>(input: &mut R, space: &mut [u8]) -> io::Result<usize>
     ensures { IfOk result (λ n. n ≤ length space.new) }
 {

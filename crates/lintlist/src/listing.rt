@@ -1,115 +1,87 @@
 // The listing of a bale file, to a writer.
-ghost use Rattle.std.specs.Prelude.{◌<◌};
-
 use bale::{Bale, Note, Reading};
-use pyramid::Settings;
+use pyramid::{LevelSize, Settings};
 use std::io;
 use std::io::Write;
 
-fn text<W: Write>(out: &mut W, bytes: &[u8]) -> io::Result<()> {
-    out.write_all(bytes)
-}
-
 // Text, and a number in decimal after it.
+// Kept: a number's digits are those of `decimals`, as in every text that is read or written (document 02, P2).
 fn number<W: Write>(out: &mut W, word: &[u8], n: u32) -> io::Result<()> {
     let mut digits = [0; 10];
     let count = decimals::put_decimal(n, &mut digits, 0).unwrap_or(0);
-    text(out, word)?;
-    text(out, &digits[..count])
+    out.write_all(word)?;
+    out.write_all(&digits[..count])
 }
 
-// The last hexadecimal digit of a number, in upper case.
-fn digit(n: u32) -> u8 {
-    let d = (n % 16) as u8;
-    if d < 10 { 48 + d } else { 55 + d }
-}
-
-// Eight hexadecimal digits.
-fn hexadecimal<W: Write>(out: &mut W, n: u32) -> io::Result<()> {
-    let digits = [
-        digit(n / 268435456),
-        digit(n / 16777216),
-        digit(n / 1048576),
-        digit(n / 65536),
-        digit(n / 4096),
-        digit(n / 256),
-        digit(n / 16),
-        digit(n),
-    ];
-    text(out, &digits)
-}
-
+// A percentage by its bits.
 fn print_reading<W: Write>(out: &mut W, reading: Reading) -> io::Result<()> {
-    let code = bale::reading_code(reading);
-    let kind = code.kind;
-    match kind {
-        0 => text(out, b"none"),
-        1 => hexadecimal(out, code.number),
-        _ => number(out, b"fault ", code.number),
+    let held = bale::reading_code(reading).map_or(0, |code| code.number);
+    match reading {
+        Reading::NotFitted => out.write_all(b"none"),
+        Reading::Percentage(_) => write!(out, "{held:08X}"),
+        Reading::Fault(_) => number(out, b"fault ", held),
     }
 }
 
 fn print_picture<W: Write>(out: &mut W, s: Settings) -> io::Result<()> {
-    number(out, b"picture ", s.columns as u32)?;
-    number(out, b" ", s.rows as u32)?;
-    number(out, b" depth ", s.depth as u32)?;
-    number(out, b" kernel ", s.kernel as u32)?;
-    text(out, b"\n")
+    number(out, b"picture ", u32::from(s.columns))?;
+    number(out, b" ", u32::from(s.rows))?;
+    number(out, b" depth ", u32::from(s.depth))?;
+    number(out, b" kernel ", u32::from(s.kernel))?;
+    out.write_all(b"\n")
 }
 
 fn print_note<W: Write>(out: &mut W, note: Note) -> io::Result<()> {
-    let drier = note.before_drier;
-    let press = note.at_press;
-    text(out, b"moisture ")?;
-    print_reading(out, drier)?;
-    text(out, b" ")?;
-    print_reading(out, press)?;
-    text(out, b"\n")
+    out.write_all(b"moisture ")?;
+    print_reading(out, note.before_drier)?;
+    out.write_all(b" ")?;
+    print_reading(out, note.at_press)?;
+    out.write_all(b"\n")
 }
 
 // A level: its columns, rows, bin and bound.
-fn print_level<W: Write>(out: &mut W, s: Settings, bounds: [u16; 7], level: u16) -> io::Result<()>
-    requires { level < 7 }
-{
-    let bins = s.bins;
-    let slot = level as usize;
-    let size = pyramid::level_size(s, level);
-    number(out, b"level ", level as u32)?;
-    number(out, b" ", size.columns as u32)?;
-    number(out, b" ", size.rows as u32)?;
-    number(out, b" bin ", bins[slot] as u32)?;
-    number(out, b" within ", bounds[slot] as u32)?;
-    text(out, b"\n")
+fn print_level<W: Write>(
+    out: &mut W,
+    level: u16,
+    size: LevelSize,
+    bin: u16,
+    bound: u16,
+) -> io::Result<()> {
+    number(out, b"level ", u32::from(level))?;
+    number(out, b" ", u32::from(size.columns))?;
+    number(out, b" ", u32::from(size.rows))?;
+    number(out, b" bin ", u32::from(bin))?;
+    number(out, b" within ", u32::from(bound))?;
+    out.write_all(b"\n")
 }
 
 // From level N down.
-fn print_levels<W: Write>(out: &mut W, s: Settings) -> io::Result<()> {
-    let within = pyramid::level_bounds(s);
-    let bounds = within.levels;
-    let mut level: u16 = 7;
-    while 0 < level {
-        level -= 1;
-        if level <= s.depth {
-            print_level(out, s, bounds, level)?;
+fn print_levels<W: Write>(out: &mut W, s: Settings, bounds: [u16; 7]) -> io::Result<()> {
+    for level in (0..7u16).rev() {
+        let slot = usize::from(level);
+        if let Ok(size) = pyramid::level_size(s, level)
+            && level <= s.depth
+        {
+            print_level(out, level, size, s.bins[slot], bounds[slot])?;
         }
     }
     Ok(())
 }
 
 fn print_bale<W: Write>(out: &mut W, b: Bale) -> io::Result<()> {
-    let s = b.settings;
-    let note = b.note;
-    print_picture(out, s)?;
-    print_note(out, note)?;
-    print_levels(out, s)
+    let bounds = pyramid::level_bounds(b.settings).unwrap_or([0; 7]);
+    print_picture(out, b.settings)?;
+    print_note(out, b.note)?;
+    print_levels(out, b.settings, bounds)
 }
 
 // The listing of a file that is accepted, or the refusal.
 pub(crate) fn print<W: Write>(out: &mut W, file: &[u8]) -> io::Result<()> {
-    let b = bale::check_file(file);
-    if b.refusal != 0 {
-        number(out, b"refused ", b.refusal as u32)?;
-        return text(out, b"\n");
+    match bale::check_file(file) {
+        Ok(b) => print_bale(out, b),
+        Err(refusal) => {
+            number(out, b"refused ", u32::from(u16::from(refusal)))?;
+            out.write_all(b"\n")
+        }
     }
-    print_bale(out, b)
 }
