@@ -1,12 +1,11 @@
--- Buffers whose values all lie within a bound: tables, rasters and splices of them. Assumes nothing.
+-- Buffers whose values all lie within a bound: tables and rasters. Assumes nothing.
 use mathlib.Core.List.{List}
 use Prim.Native.Nat.{ℕ, ◌<◌}
 use native.Mathlib.Omega.{arith}
 use lib.IntN.{ℤ, pos}
-use lib.ListN.{length, get_or, replicate}
+use lib.ListN.{length, get_or}
 use Rattle.mathematics.specs.Definitions.Tables.{tabulate}
-use Rattle.mathematics.specs.Inner.Splices.{splice}
-use Rattle.mathematics.proofs.Each.{each_inside, each_tabulate, each_replicate, each_splice}
+use Rattle.mathematics.proofs.Each.{each_inside, each_tabulate}
 use Rattle.pyramid.specs.Definitions.Sizes.{Level}
 use Rattle.pyramid.specs.Definitions.Buffers.{raster}
 use Rattle.pyramid.specs.Inner.Rows.{Within, Small}
@@ -22,12 +21,6 @@ module _ {e : ℕ} where
 
   pub small-tabulate : (n : ℕ) (f : ℕ → ℤ) → ((i : ℕ) → i < n → Within e (f i)) → Small e (tabulate n f)
   small-tabulate = each_tabulate (Within e) (pos 0) zero_within
-
-  pub small-splice : (at : ℕ) (xs l : List ℤ) → Small e xs → Small e l → Small e (splice at xs l)
-  small-splice = each_splice (Within e) (pos 0) zero_within
-
-  pub small_zeros : (n : ℕ) → Small e (replicate n (pos 0))
-  small_zeros n = each_replicate (Within e) (pos 0) zero_within n (pos 0) zero_within
 
   pub small-raster : (columns rows : ℕ) (f : Level) → 0 < columns → ((i j : ℕ) → i < columns → j < rows → Within e (f i j)) → Small e (raster columns rows f)
   small-raster columns rows f h g =

@@ -132,9 +132,6 @@ module _ {s : Settings} {levels w : List ℤ} (g : Rebuildable s levels w) where
 
     -- with it
     module _ (r : Rebuilding s levels w work (start s l + nodes_at s l)) where
-      pub rebuilding_long : length work ≡ length w
-      rebuilding_long = ap length r.is ∙ length_topped s (values s levels) w g.long (start s l + nodes_at s l) (level_inside s l deep)
-
       pub rebuilding-next : 0 < l → Rebuilding s levels w work (start s (l - 1))
       rebuilding-next h = subst (Rebuilding s levels w work) (start-next s l h deep) r
 

@@ -87,14 +87,9 @@ impl Triple {
 
 // The column (row) that place p stands for, where z is the last: column p - 2, reflected at the nearer edge.
 pub fn reflected(z: usize, p: usize) -> usize
-    requires { (1 ≤ z) × (z ≤ 128) × (2 ≤ z + p) × (p ≤ 2 * z + 2) }
+    requires { z ≤ 128 }
     ensures { result ≡ reflect z p }
 {
-    if p < 2 {
-        return 2 - p;
-    }
-    if z < p - 2 {
-        return 2 * z + 2 - p;
-    }
-    p - 2
+    let column = p.abs_diff(2);
+    column.min((2 * z).abs_diff(column))
 }
