@@ -21,11 +21,13 @@ slice_bounds-indices-end c = omega (arith, (section_whole (none _ _ (sym c.in_ok
 pub returns-then-not-indices_ok : goal.returns-then-not-indices_ok
 unfolding unless
 returns-then-not-indices_ok c =
-    refuses _ Index
-    (sym (level_left _ _ _ _ (nodes_here c.args.self.now.shape.settings _ c.requires.0 c.level_nodes-nodes.ensures) (none _ _ (sym c.in_ok-check_section.ensures)) (c.if-not-indices_ok.ensures ∙ ap (all _) (indices_whole _ _ _ (omega (arith, (section_whole (none _ _ (sym c.in_ok-check_section.ensures))).present))))))
+    let s = c.args.self.now.shape.settings in
+    let nodes = nodes_here s _ c.requires.0 c.level_nodes-nodes.ensures in
+    refuses _ Index (sym (level_left _ s c.args.level _ nodes (none _ _ (sym c.in_ok-check_section.ensures)) c.if-not-indices_ok.ensures))
 
 pub returns : goal.returns
 unfolding unless
 returns c =
-    let nodes = nodes_here c.args.self.now.shape.settings _ c.requires.0 c.level_nodes-nodes.ensures in
-    rw (← nodes) (accepts _ (level_left _ _ _ _ nodes (none _ _ (sym c.in_ok-check_section.ensures)) (c.if-not-indices_ok.ensures ∙ ap (all _) (indices_whole _ _ _ (omega (arith, (section_whole (none _ _ (sym c.in_ok-check_section.ensures))).present))))))
+    let s = c.args.self.now.shape.settings in
+    let nodes = nodes_here s _ c.requires.0 c.level_nodes-nodes.ensures in
+    rw (← nodes) (accepts _ (level_left _ s c.args.level _ nodes (none _ _ (sym c.in_ok-check_section.ensures)) c.if-not-indices_ok.ensures))
