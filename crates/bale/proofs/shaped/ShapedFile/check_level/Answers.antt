@@ -1,12 +1,10 @@
 -- `bale::shaped::ShapedFile::check_level` meets its contract: the section, then its indices. Assumes nothing.
-use mathlib.Core.Path.{sym, ap, ◌∙◌}
+use mathlib.Core.Path.{sym}
 use native.Mathlib.Omega.{arith}
 use Rattle.refusals.specs.declared.Refusal.TheVariants.{Index}
 use Rattle.refusals.proofs.Outcomes.{refuses, accepts, none, passed_on}
 use Rattle.pyramid.specs.Definitions.Refusals.{unless}
 use Rattle.bale.proofs.Sections.{section_whole}
-use Rattle.mathematics.specs.Definitions.Tests.{all}
-use Rattle.bale.proofs.WordLists.{indices_whole}
 use Rattle.bale.proofs.Checks.{nodes_here, level_stop, level_left}
 use Rattle.bale.proofs.shaped.ShapedFile.check_level.Goals as goal
 
