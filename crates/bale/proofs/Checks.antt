@@ -2,7 +2,7 @@
 use mathlib.Core.Path.{◌≡◌, refl, sym, ap, ◌∙◌}
 use mathlib.Core.Bool.{Bool, cond}
 use mathlib.Core.List.{List}
-use Prim.Native.Nat.{ℕ, zero, suc, ◌+◌, ◌-◌, ◌*◌, ◌≤◌}
+use Prim.Native.Nat.{ℕ, zero, suc, ◌+◌, ◌-◌, ◌*◌, ◌/◌, ◌≤◌}
 use native.Mathlib.Omega.{arith}
 use borrow.Author.Tests.{le-leb}
 use lib.Dec.{leb, eqb}
@@ -13,9 +13,12 @@ use Rattle.pyramid.specs.Definitions.Settings.{bin, bins_ok}
 use Rattle.pyramid.specs.Definitions.Sizes.{nodes_at}
 use Rattle.pyramid.specs.Definitions.Refusals.{unless, index_ok, shape_refusal}
 use Rattle.pyramid.proofs.Refusals.{first_stop, first_skip, first-last}
+use Rattle.mathematics.specs.Inner.Splices.{part}
 use Rattle.bale.specs.Definitions.Words.{indices_at}
 use Rattle.bale.specs.Definitions.Sections.{section_refusal}
 use Rattle.bale.specs.Definitions.Reader.{depth_in, settings_in, levels_place, readings_section_refusal, shape_section_refusal, bins_section_refusal, level_section_refusal, level_sections_refusal}
+use Rattle.bale.proofs.WordLists.{indices_whole}
+use Rattle.bale.proofs.Sections.{section_whole}
 
 -- ---- the settings that a file holds
 
@@ -55,10 +58,18 @@ module _ (bytes : List ℕ) (s : Settings) (level at : ℕ) {nodes : ℕ} (n : n
   unfolding level_section_refusal
   level_stop = rw n (first_stop _ _)
 
-  pub level_left : section_refusal bytes at nodes 2 ≡ 0 → {test : Bool} → test ≡ all (index_ok (bin s level)) (indices_at bytes (at + 2) nodes)
+  -- the indices are looked at in the part that holds them
+  abbrev indices : List ℕ
+  indices = part (at + 2) (at + 2 + 2 * nodes) bytes
+
+  pub level_left : section_refusal bytes at nodes 2 ≡ 0 → {test : Bool} → test ≡ all (index_ok (bin s level)) (indices_at indices 0 (length indices / 2))
       → level_section_refusal bytes s level at ≡ unless test 11
   unfolding level_section_refusal
-  level_left none t = rw (t, n) (let m : section_refusal bytes at (nodes_at s level) 2 ≡ 0 = rw n at none in first_skip _ _ m ∙ first-last _)
+  level_left none {test} t =
+      let whole = indices_whole bytes (at + 2) nodes (omega (arith, (section_whole none).present)) in
+      let same : test ≡ all (index_ok (bin s level)) (indices_at bytes (at + 2) (nodes_at s level)) = t ∙ ap (all (index_ok (bin s level))) whole ∙ rw n in
+      let m : section_refusal bytes at (nodes_at s level) 2 ≡ 0 = rw n at none in
+      rw same (first_skip _ _ m ∙ first-last _)
 
 -- ---- the sections of a level and of those below it
 

@@ -195,10 +195,6 @@ pub decode_none : {k : ℕ} (n : ℕ) {a : Result Reading Refusal} → k ≡ 0 �
 unfolding decode
 decode_none n p e = rw p (e ∙ probed _ _)
 
-pub decode_one : {k : ℕ} (n : ℕ) {a : Result Reading Refusal} → k ≡ 1 → a ≡ outcome (decode 1 n).refusal (decode 1 n).reading
-    → a ≡ outcome (decode k n).refusal (decode k n).reading
-decode_one n p e = rw p e
-
 module _ (n : ℕ) where
   pub decode_percentage : n ≤ 0x7F80_0000 → le (of_bits binary32 n) hundred ≡ true
       → Ok (Percentage (of_bits binary32 n)) ≡ outcome (decode 1 n).refusal (decode 1 n).reading

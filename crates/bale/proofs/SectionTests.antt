@@ -2,7 +2,6 @@
 use mathlib.Core.Path.{◌≡◌, sym, ◌∙◌}
 use mathlib.Core.List.{List}
 use Prim.Native.Nat.{ℕ, ◌+◌, ◌*◌, ◌≤◌, ◌<◌}
-use native.Mathlib.Nat.{mul-le-mul}
 use borrow.Author.Tests.{le-leb, lt-leb, eq-eqb, ne_eqb}
 use lib.IntN.{ℤ}
 use lib.ListN.{length, get_or, get_or-map}
@@ -16,9 +15,6 @@ use Rattle.bale.specs.Definitions.Words.{u16_at, words_at, word_index, indices_a
 use Rattle.bale.specs.Definitions.Sections.{section_refusal}
 use Rattle.bale.proofs.WordLists.{get_or-words_at}
 use Rattle.bale.proofs.LevelTrips.{length_indices}
-
-pub items_small : (count size : ℕ) → count ≤ 65535 → size ≤ 5 → size * count ≤ 327675
-items_small count size c s = mul-le-mul s c
 
 -- ---- a section: its count is absent, or wrong, or its items are not all there
 

@@ -1,5 +1,5 @@
--- What the writer answers before it writes: a file's size, and the first rule that is broken. Assumes nothing.
-use mathlib.Core.Path.{◌≡◌, refl}
+-- Which rule the writer finds broken first. Assumes nothing.
+use mathlib.Core.Path.{◌≡◌}
 use mathlib.Core.Bool.{true, false}
 use mathlib.Core.List.{List, [], ◌∷◌}
 use Prim.Native.Nat.{ℕ, ◌≤◌, ◌<◌}
@@ -10,17 +10,12 @@ use lib.ListN.{length}
 use Rattle.pyramid.specs.declared.Settings.{Settings}
 use Rattle.pyramid.specs.Definitions.Sizes.{total}
 use Rattle.pyramid.specs.Definitions.Refusals.{unless, first, settings_refusal, values_ok}
-use Rattle.pyramid.proofs.Refusals.{leaves_new}
 use Rattle.bale.specs.declared.Note.{Note}
 use Rattle.bale.specs.Definitions.Readings.{note_ok}
 use Rattle.bale.specs.Definitions.Files.{file_length}
-use Rattle.bale.specs.Definitions.Calls.{size_answer, write_refusal}
+use Rattle.bale.specs.Definitions.Calls.{write_refusal}
 
-pub size_is : (s : Settings) → settings_refusal s ≡ 0 → size_answer s ≡ record { refusal = 0; size = file_length s }
-unfolding size_answer
-size_is s e = rw (e, leaves_new 0 (file_length s) 0 refl)
-
--- ---- the rules, each where those before it hold; number 8 comes between 6 and 11, which are the levels' own
+-- each rule where those before it hold; number 8 comes between 6 and 11, which are the levels' own
 
 module _ (s : Settings) (note : Note) (levels : List ℤ) (room : ℕ) (none : settings_refusal s ≡ 0) where
   pub note_refused : false ≡ note_ok note → 4 ≡ write_refusal s note levels room

@@ -43,6 +43,7 @@ fn indices_ok(indices: &[u8], bin: u16) -> bool
 }
 
 impl ShapedFile<'_> {
+    // The section of the bins, and whether these are lawful.
     pub fn check_bins(&self) -> Result<(), Refusal>
         ensures { result ≡ outcome (bins_section_refusal self.now.bytes.now) tt }
     {

@@ -1,5 +1,5 @@
 // The indices of a file that is accepted, into the level buffer.
-ghost use Rattle.std.specs.Prelude.{◌≡◌, ◌+◌, ◌*◌, ◌≤◌, length};
+ghost use Rattle.std.specs.Prelude.{◌≡◌, ◌+◌, ◌*◌, length};
 ghost use Rattle.bale.specs.Definitions.Words.{indices_at};
 ghost use Rattle.bale.specs.Definitions.Reader.{levels_in};
 ghost use Rattle.bale.specs.Definitions.Calls.{read_refusal};

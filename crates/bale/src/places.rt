@@ -1,4 +1,5 @@
 // Where the sections of a file stand (document 01, "Bale file"): each starts with its count.
+// Kept: the rules name what a file holds by its places, past its end too, where a cursor has nothing to read.
 ghost use Rattle.std.specs.Prelude.{◌≡◌};
 ghost use Rattle.bale.specs.Definitions.Reader.{readings_place, drier_place, press_place, levels_place};
 

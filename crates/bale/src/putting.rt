@@ -3,12 +3,12 @@ ghost use Rattle.std.specs.Prelude.{◌≡◌, ◌++◌, ◌∷◌, map, ◌+◌
 ghost use Rattle.mathematics.specs.Inner.Splices.{splice};
 ghost use Rattle.pyramid.specs.Definitions.Sizes.{total};
 ghost use Rattle.bale.specs.Definitions.Words.{le32, words, index_word};
-ghost use Rattle.bale.specs.Definitions.Readings.{reading_ok, note_ok, reading_bytes};
+ghost use Rattle.bale.specs.Definitions.Readings.{note_ok};
 ghost use Rattle.bale.specs.Definitions.Files.{shape_section, bins_section, readings_section, level_section, level_sections, file_of, file_length};
 ghost use Rattle.bale.specs.Definitions.Reader.{bins_place, readings_place, levels_place};
 ghost use Rattle.bale.specs.Definitions.Calls.{write_refusal};
 
-use crate::{Code, Note, Reading, places, words};
+use crate::{Code, Note, places, words};
 use pyramid::{Settings, Shape};
 
 fn put_shape(s: Settings, file: &mut [u8])

@@ -12,11 +12,8 @@ returns-in_err-shape c =
 pub put_file-requires : goal.put_file-requires
 put_file-requires c = let e = sym c.in_ok-shape.ensures in rw (value-is _ _ e) (none _ _ e)
 
-pub returns : goal.returns
-returns c =
-    let e = sym c.in_ok-shape.ensures in
-    let s = value-is _ _ e in
-    record {
-      value = rw (c.file_length.ensures, s) (accepts _ (none _ _ e)) ∙ writing_left _ _ _ _;
-      file_after = (rw s at c.put_file.ensures) ∙ writing_put _ _ _ _ (none _ _ e);
-    }
+pub returns-clause-value : goal.returns-clause-value
+returns-clause-value c = let e = sym c.in_ok-shape.ensures in rw (c.file_length.ensures, value-is _ _ e) (accepts _ (none _ _ e)) ∙ writing_left _ _ _ _
+
+pub returns-clause-file_after : goal.returns-clause-file_after
+returns-clause-file_after c = let e = sym c.in_ok-shape.ensures in (rw (value-is _ _ e) at c.put_file.ensures) ∙ writing_put _ _ _ _ (none _ _ e)

@@ -1,12 +1,10 @@
 -- `bale::shaped::ShapedFile::check_level` meets its contract: the section, then its indices. Assumes nothing.
-use mathlib.Core.Path.{sym, ap, ◌∙◌}
+use mathlib.Core.Path.{sym}
 use native.Mathlib.Omega.{arith}
 use Rattle.refusals.specs.declared.Refusal.TheVariants.{Index}
 use Rattle.refusals.proofs.Outcomes.{refuses, accepts, none, passed_on}
 use Rattle.pyramid.specs.Definitions.Refusals.{unless}
 use Rattle.bale.proofs.Sections.{section_whole}
-use Rattle.mathematics.specs.Definitions.Tests.{all}
-use Rattle.bale.proofs.WordLists.{indices_whole}
 use Rattle.bale.proofs.Checks.{nodes_here, level_stop, level_left}
 use Rattle.bale.proofs.shaped.ShapedFile.check_level.Goals as goal
 
@@ -21,11 +19,13 @@ slice_bounds-indices-end c = omega (arith, (section_whole (none _ _ (sym c.in_ok
 pub returns-then-not-indices_ok : goal.returns-then-not-indices_ok
 unfolding unless
 returns-then-not-indices_ok c =
-    refuses _ Index
-    (sym (level_left _ _ _ _ (nodes_here c.args.self.now.shape.settings _ c.requires.0 c.level_nodes-nodes.ensures) (none _ _ (sym c.in_ok-check_section.ensures)) (c.if-not-indices_ok.ensures ∙ ap (all _) (indices_whole _ _ _ (omega (arith, (section_whole (none _ _ (sym c.in_ok-check_section.ensures))).present))))))
+    let s = c.args.self.now.shape.settings in
+    let nodes = nodes_here s _ c.requires.0 c.level_nodes-nodes.ensures in
+    refuses _ Index (sym (level_left _ s c.args.level _ nodes (none _ _ (sym c.in_ok-check_section.ensures)) c.if-not-indices_ok.ensures))
 
 pub returns : goal.returns
 unfolding unless
 returns c =
-    let nodes = nodes_here c.args.self.now.shape.settings _ c.requires.0 c.level_nodes-nodes.ensures in
-    rw (← nodes) (accepts _ (level_left _ _ _ _ nodes (none _ _ (sym c.in_ok-check_section.ensures)) (c.if-not-indices_ok.ensures ∙ ap (all _) (indices_whole _ _ _ (omega (arith, (section_whole (none _ _ (sym c.in_ok-check_section.ensures))).present))))))
+    let s = c.args.self.now.shape.settings in
+    let nodes = nodes_here s _ c.requires.0 c.level_nodes-nodes.ensures in
+    rw (← nodes) (accepts _ (level_left _ s c.args.level _ nodes (none _ _ (sym c.in_ok-check_section.ensures)) c.if-not-indices_ok.ensures))
