@@ -37,7 +37,7 @@ pub struct Note {
 }
 
 // The kind byte and the number that stand for a reading in a file.
-#[derive(Clone, Copy)]
+#[derive(Clone, Copy, PartialEq, Eq)]
 pub struct Code {
     pub kind: u8,
     pub number: u32,

@@ -1,70 +1,49 @@
-// What a reader is to answer, and how its answer differs.
+// What a call is to answer, a value or the number of a refusal, and how its answer differs.
 use crate::parts::{Finding, Part, compared};
-use bale::{Bale, Reading};
+use bale::{Bale, Code, Reading};
 use pyramid::Settings;
+use refusals::{Refusal, answer_number};
 use test_support::comparing::first_difference;
 use test_support::decoding;
 
-// The kind and the number of a reading.
+// What a file holds: settings, and the kinds and the numbers of two readings.
 #[derive(Clone, Copy)]
 pub(crate) struct Held {
-    pub kind: u8,
-    pub number: u32,
-}
-
-// What a reading that is not fitted holds.
-pub(crate) const NOT_FITTED: Held = Held { kind: 0, number: 0 };
-
-// A refusal, or settings and two readings.
-#[derive(Clone, Copy)]
-pub(crate) struct Expected {
-    pub refusal: u16,
     pub settings: Settings,
-    pub before_drier: Held,
-    pub at_press: Held,
-}
-
-// A refusal holds 0 in the numbers and not fitted in the readings.
-pub(crate) fn refused(refusal: u16) -> Expected {
-    Expected {
-        refusal,
-        settings: Settings {
-            columns: 0,
-            rows: 0,
-            depth: 0,
-            kernel: 0,
-            bins: [0; 7],
-        },
-        before_drier: NOT_FITTED,
-        at_press: NOT_FITTED,
-    }
+    pub before_drier: Code,
+    pub at_press: Code,
 }
 
 // A reading in five bytes: its kind and its number.
-fn held_at(said: &[u8], at: u16) -> Held {
+fn code_at(said: &[u8], at: u16) -> Code {
     let at = usize::from(at);
-    Held {
+    Code {
         kind: decoding::byte_at(said, at),
         number: decoding::unsigned32_at(said, at + 1),
     }
 }
 
 // The settings and the readings that a case says.
-fn accepted(said: &[u8]) -> Expected {
-    Expected {
-        refusal: 0,
+pub(crate) fn held_in(said: &[u8]) -> Held {
+    Held {
         settings: decoding::settings_of(said),
-        before_drier: held_at(said, 22),
-        at_press: held_at(said, 27),
+        before_drier: code_at(said, 22),
+        at_press: code_at(said, 27),
     }
 }
 
-// What a case says, where it is accepted.
-pub(crate) fn said_by(refusal: u16, said: &[u8]) -> Expected {
-    if refusal == 0 {
-        return accepted(said);
+// What a call is to answer: a value, or where the number is not 0 the refusal of that number.
+pub(crate) fn expected<T: Copy>(number: u16, value: T) -> Result<T, u16> {
+    match number {
+        0 => Ok(value),
+        refusal => Err(refusal),
     }
-    refused(refusal)
+}
+
+// The number of an answer, where it is not the one that is expected; 0 is that of a value.
+pub(crate) fn compare_number<T: Copy>(got: Result<T, Refusal>, expected: u16) -> Option<Finding> {
+    let number = answer_number(got);
+    (number != expected).then_some(Finding::of_part(Part::Refusal, usize::from(number)))
 }
 
 // C, R, N, k and then the bins.
@@ -84,16 +63,16 @@ fn has_bits(x: f32, bits: u32) -> bool {
 }
 
 // By what the reading holds, and not by what `reading_code` says of it.
-pub(crate) fn is_held(reading: Reading, held: Held) -> bool {
+pub(crate) fn is_held(reading: Reading, code: Code) -> bool {
     match reading {
-        Reading::NotFitted => held.kind == 0 && held.number == 0,
-        Reading::Percentage(x) => held.kind == 1 && has_bits(x, held.number),
-        Reading::Fault(n) => held.kind == 2 && held.number == n,
+        Reading::NotFitted => code.kind == 0 && code.number == 0,
+        Reading::Percentage(x) => code.kind == 1 && has_bits(x, code.number),
+        Reading::Fault(n) => code.kind == 2 && code.number == n,
     }
 }
 
 // Reading 0 before the drier, reading 1 at the press.
-fn compare_readings(b: Bale, e: Expected) -> Option<Finding> {
+fn compare_readings(b: Bale, e: Held) -> Option<Finding> {
     let note = b.note;
     if !is_held(note.before_drier, e.before_drier) {
         return Some(Finding::of_part(Part::ReadingHeld, 0));
@@ -104,11 +83,15 @@ fn compare_readings(b: Bale, e: Expected) -> Option<Finding> {
     None
 }
 
-// The first difference: the refusal, a setting, a reading.
-pub(crate) fn compare(b: Bale, e: Expected) -> Option<Finding> {
-    if b.refusal != e.refusal {
-        return Some(Finding::of_part(Part::Refusal, usize::from(b.refusal)));
-    }
+fn compare_bale(b: Bale, e: Held) -> Option<Finding> {
     let setting = first_difference(&numbers(b.settings), &numbers(e.settings), 11);
     compared(Part::Setting, setting).or(compare_readings(b, e))
+}
+
+// The first difference of a reader's answer: the refusal, a setting, a reading.
+pub(crate) fn compare(got: Result<Bale, Refusal>, e: Result<Held, u16>) -> Option<Finding> {
+    match (got, e) {
+        (Ok(b), Ok(e)) => compare_bale(b, e),
+        (_, e) => compare_number(got, e.err().unwrap_or(0)),
+    }
 }

@@ -1,5 +1,5 @@
 // The cases of the vectors one after the other.
-use crate::answers::Expected;
+use crate::answers::Held;
 use crate::parts::{Finding, Part, cut_unless};
 use crate::reading::Head;
 use crate::{answers, readers, reading, writers};
@@ -9,13 +9,13 @@ use test_support::reading::{Start, read_exactly, read_head};
 use test_support::reporting::Tally;
 
 // Both readers, and for an accepted file the writer.
-fn check_file(e: Expected, nodes: u16, file: &[u8], indices: &[u8]) -> Option<Finding> {
+fn check_file(e: Result<Held, u16>, nodes: u16, file: &[u8], indices: &[u8]) -> Option<Finding> {
     let checked = readers::check_checking(e, file);
     let read = checked.or(readers::check_lent(e, nodes, file, indices));
-    if e.refusal != 0 {
-        return read;
+    match e {
+        Ok(_) => read.or(writers::check_written(nodes, file)),
+        Err(_) => read,
     }
-    read.or(writers::check_written(nodes, file))
 }
 
 // Reads what the case says of its file: at most 44,718 bytes are indices.
@@ -23,7 +23,7 @@ fn check_said<R: Read>(data: &mut R, h: Head, file: &[u8]) -> io::Result<Option<
     let mut said: [u8; 32] = [0; 32];
     let mut indices: [u8; 44718] = [0; 44718];
     let is_read = reading::read_said(data, h, &mut said, &mut indices)?;
-    let e = answers::said_by(h.refusal, &said);
+    let e = answers::expected(h.refusal, answers::held_in(&said));
     Ok(cut_unless(is_read).or(check_file(e, h.nodes, file, &indices)))
 }
 

@@ -1,30 +1,27 @@
-// Readings and their codes by themselves, both ways. A refusal holds 0 in the numbers and not fitted in the reading.
-use crate::answers::{Held, NOT_FITTED};
+// Readings and their codes by themselves, both ways.
 use crate::parts::{Call, Finding, Part, of_call};
 use crate::singles::Trial;
 use crate::{answers, singles};
+use bale::Code;
 use test_support::reporting::Tally;
 
 fn compare_code(x: Trial) -> Option<Finding> {
-    let code = bale::reading_code(x.reading);
-    if code.refusal != x.refusal {
-        return Some(Finding::of_part(Part::Refusal, usize::from(code.refusal)));
+    match (bale::reading_code(x.reading), x.code) {
+        (Ok(code), Ok(e)) => {
+            (code != e).then_some(Finding::of_part(Part::Code, usize::from(code.kind)))
+        }
+        (got, e) => answers::compare_number(got, e.err().unwrap_or(0)),
     }
-    if code.kind != x.kind || code.number != x.number {
-        return Some(Finding::of_part(Part::Code, usize::from(code.kind)));
-    }
-    None
 }
 
-fn compare_reading(code: Held, refusal: u16, held: Held) -> Option<Finding> {
-    let probe = bale::coded_reading(code.kind, code.number);
-    if probe.refusal != refusal {
-        return Some(Finding::of_part(Part::Refusal, usize::from(probe.refusal)));
+// A code stands for a reading that holds it, or is refused with 4.
+fn compare_reading(code: Code, is_lawful: bool) -> Option<Finding> {
+    match bale::coded_reading(code.kind, code.number) {
+        Ok(reading) if is_lawful => {
+            (!answers::is_held(reading, code)).then_some(Finding::of_part(Part::ReadingHeld, 0))
+        }
+        got => answers::compare_number(got, if is_lawful { 0 } else { 4 }),
     }
-    if !answers::is_held(probe.reading, held) {
-        return Some(Finding::of_part(Part::ReadingHeld, 0));
-    }
-    None
 }
 
 // A kind and a number, and whether they stand for a reading: not fitted with a number; 100 percent, those next to it, 0, both ends
@@ -65,13 +62,8 @@ pub(crate) fn check_all() -> Tally<Finding> {
         tally.count(of_call(Call::Coding, compare_code(x)));
     }
     for (kind, number, is_lawful) in CODES {
-        let code = Held { kind, number };
-        let (refusal, held) = if is_lawful {
-            (0, code)
-        } else {
-            (4, NOT_FITTED)
-        };
-        tally.count(of_call(Call::Decoding, compare_reading(code, refusal, held)));
+        let found = compare_reading(Code { kind, number }, is_lawful);
+        tally.count(of_call(Call::Decoding, found));
     }
     tally
 }

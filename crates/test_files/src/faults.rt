@@ -3,7 +3,7 @@ ghost use Rattle.std.specs.Prelude.{◌≤◌};
 
 use crate::parts::Finding;
 use crate::writers::Written;
-use crate::{piece_a, writers};
+use crate::{answers, piece_a, writers};
 use bale::{Note, Reading};
 use pyramid::Settings;
 use test_support::faults::Faults;
@@ -75,8 +75,7 @@ fn check_size(faults: Faults, s: Settings) -> Option<Finding> {
         bits: faults.bits % 64,
         ..faults
     };
-    let answer = own.first();
-    writers::check_size(s, answer, if answer == 0 { 58 } else { 0 })
+    writers::check_size(s, answers::expected(own.first(), 58))
 }
 
 // Lends the first places of the levels and the first bytes of a buffer.
@@ -88,10 +87,11 @@ fn check_set(faults: Faults) -> Option<Finding> {
         settings: faults.put_in(piece_a::SETTINGS),
         note: note(faults.has(4), variant),
         levels: &levels[..lent_places(faults.has(6), variant)],
-        file: &piece_a::file(),
     };
+    let file = piece_a::file();
+    let e = answers::expected(faults.first(), file.as_slice());
     let room = lent_room(faults.has(8), variant);
-    let found = writers::check_writing(faults.first(), written, &mut out[..room]);
+    let found = writers::check_writing(e, written, &mut out[..room]);
     check_size(faults, written.settings).or(found)
 }
 

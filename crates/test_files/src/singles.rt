@@ -4,33 +4,27 @@ ghost use Rattle.std.specs.Prelude.{◌≡◌, length};
 use crate::parts::Finding;
 use crate::writers::Written;
 use crate::{piece_a, writers};
-use bale::{Note, Reading};
+use bale::{Code, Note, Reading};
 use test_support::reporting::Tally;
 
 // A reading; and its kind and number in the file, or refusal 4.
 #[derive(Clone, Copy)]
 pub(crate) struct Trial {
     pub reading: Reading,
-    pub refusal: u16,
-    pub kind: u8,
-    pub number: u32,
+    pub code: Result<Code, u16>,
 }
 
 fn lawful(reading: Reading, kind: u8, number: u32) -> Trial {
     Trial {
         reading,
-        refusal: 0,
-        kind,
-        number,
+        code: Ok(Code { kind, number }),
     }
 }
 
 fn unlawful(reading: Reading) -> Trial {
     Trial {
         reading,
-        refusal: 4,
-        kind: 0,
-        number: 0,
+        code: Err(4),
     }
 }
 
@@ -74,13 +68,13 @@ fn note(reading: Reading, is_press: bool) -> Note {
 }
 
 // Piece A's file with the kind and the number of that reading, which starts at byte 18 or 23.
-fn file(kind: u8, number: u32, is_press: bool) -> [u8; 58]
+fn file(code: Code, is_press: bool) -> [u8; 58]
     ensures { 58 ≡ length result }
 {
     let at = if is_press { 23 } else { 18 };
     let mut file = piece_a::file();
-    file[at] = kind;
-    file[at + 1..at + 5].copy_from_slice(&number.to_le_bytes());
+    file[at] = code.kind;
+    file[at + 1..at + 5].copy_from_slice(&code.number.to_le_bytes());
     file
 }
 
@@ -90,9 +84,11 @@ fn check_trial(x: Trial, is_press: bool) -> Option<Finding> {
         settings: piece_a::SETTINGS,
         note: note(x.reading, is_press),
         levels: &piece_a::LEVELS[..13],
-        file: &file(x.kind, x.number, is_press),
     };
-    writers::check_writing(x.refusal, written, &mut out)
+    match x.code {
+        Ok(code) => writers::check_writing(Ok(&file(code, is_press)), written, &mut out),
+        Err(refusal) => writers::check_writing(Err(refusal), written, &mut out),
+    }
 }
 
 pub(crate) fn check_all() -> Tally<Finding> {

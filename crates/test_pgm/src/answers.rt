@@ -1,29 +1,15 @@
-// What the readers and the writer are to answer, and how an answer differs.
+// How an answer differs from what is expected: a value, or the number of a refusal.
 use crate::parts::{Finding, Part};
-use pgm::{PgmSize, PictureSize};
+use pgm::PictureSize;
+use refusals::{Refusal, answer_number};
 
-// A refusal holds 0 in the numbers.
-pub(crate) fn refused(refusal: u16) -> PictureSize {
-    PictureSize {
-        refusal,
-        columns: 0,
-        rows: 0,
-    }
+// The number of an answer, where it is not the one that is expected; 0 is that of a value.
+fn compare_number<T: Copy>(got: Result<T, Refusal>, expected: u16) -> Option<Finding> {
+    let number = answer_number(got);
+    (number != expected).then_some(Finding::of_part(Part::Refusal, usize::from(number)))
 }
 
-pub(crate) fn accepted(columns: u16, rows: u16) -> PictureSize {
-    PictureSize {
-        refusal: 0,
-        columns,
-        rows,
-    }
-}
-
-// The first difference of a reader's answer.
-pub(crate) fn compare(got: PictureSize, e: PictureSize) -> Option<Finding> {
-    if got.refusal != e.refusal {
-        return Some(Finding::of_part(Part::Refusal, usize::from(got.refusal)));
-    }
+fn compare_sides(got: PictureSize, e: PictureSize) -> Option<Finding> {
     if got.columns != e.columns {
         return Some(Finding::of_part(Part::Columns, usize::from(got.columns)));
     }
@@ -33,14 +19,21 @@ pub(crate) fn compare(got: PictureSize, e: PictureSize) -> Option<Finding> {
     None
 }
 
-// The first difference of a file's size, which is 0 where it is refused.
-pub(crate) fn compare_size(got: PgmSize, refusal: u16, size: usize) -> Option<Finding> {
-    let expected = if refusal == 0 { size } else { 0 };
-    if got.refusal != refusal {
-        return Some(Finding::of_part(Part::Refusal, usize::from(got.refusal)));
+// The first difference of a reader's answer.
+pub(crate) fn compare(
+    got: Result<PictureSize, Refusal>,
+    e: Result<PictureSize, u16>,
+) -> Option<Finding> {
+    match (got, e) {
+        (Ok(got), Ok(e)) => compare_sides(got, e),
+        (_, e) => compare_number(got, e.err().unwrap_or(0)),
     }
-    if got.size != expected {
-        return Some(Finding::of_part(Part::Size, got.size));
+}
+
+// The first difference of a file's size.
+pub(crate) fn compare_size(got: Result<usize, Refusal>, e: Result<usize, u16>) -> Option<Finding> {
+    match (got, e) {
+        (Ok(got), Ok(e)) => (got != e).then_some(Finding::of_part(Part::Size, got)),
+        (_, e) => compare_number(got, e.err().unwrap_or(0)),
     }
-    None
 }

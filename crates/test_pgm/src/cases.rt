@@ -1,7 +1,7 @@
 // The cases of the vectors one after the other.
 use crate::parts::{Finding, MOST_PIXELS, MOST_PLACES, MOST_SINGLE, Part, cut_unless};
 use crate::writers::Written;
-use crate::{answers, parts, readers, writers};
+use crate::{parts, readers, writers};
 use pgm::PictureSize;
 use std::io;
 use std::io::Read;
@@ -10,55 +10,57 @@ use test_support::reading::{Start, read_exactly, read_head};
 use test_support::reporting::Tally;
 
 // The readers over an accepted file, whose picture is lent with a place more, and the writer.
-fn check_file(e: PictureSize, file: &[u8], more: &[u8], single: &[u8]) -> Option<Finding> {
+fn check_file(size: PictureSize, file: &[u8], more: &[u8], single: &[u8]) -> Option<Finding> {
     let picture = parts::but_last(more);
     let written = Written {
-        size: e,
+        size,
         picture,
         file: single,
     };
-    readers::check_read(e, file, picture).or(writers::check_written(written, more))
+    readers::check_read(Ok(size), file, picture).or(writers::check_written(written, more))
 }
 
 // Reads the single form that a case says.
 fn check_single<R: Read>(
     data: &mut R,
-    e: PictureSize,
+    size: PictureSize,
     file: &[u8],
     more: &[u8],
 ) -> io::Result<Option<Finding>> {
     let mut length: [u8; 4] = [0; 4];
     let mut single: [u8; MOST_SINGLE] = [0; MOST_SINGLE];
     let is_said = read_exactly(data, &mut length, 4)?;
-    let size = decoding::unsigned32_at(&length, 0) as usize;
-    let is_read = read_exactly(data, &mut single, size)?;
-    let found = check_file(e, file, more, &single[..size.min(MOST_SINGLE)]);
+    let n = decoding::unsigned32_at(&length, 0) as usize;
+    let is_read = read_exactly(data, &mut single, n)?;
+    let found = check_file(size, file, more, &single[..n.min(MOST_SINGLE)]);
     Ok(cut_unless(is_said && is_read).or(found))
 }
 
 // Reads the picture that a case says.
 fn check_picture<R: Read>(
     data: &mut R,
-    e: PictureSize,
+    size: PictureSize,
     file: &[u8],
 ) -> io::Result<Option<Finding>> {
     let mut pixels: [u8; MOST_PLACES] = [0; MOST_PLACES];
-    let n = usize::from(e.columns) * usize::from(e.rows);
+    let n = usize::from(size.columns) * usize::from(size.rows);
     let is_read = read_exactly(data, &mut pixels, n)?;
-    let found = check_single(data, e, file, &pixels[..n.min(MOST_PIXELS) + 1])?;
+    let found = check_single(data, size, file, &pixels[..n.min(MOST_PIXELS) + 1])?;
     Ok(cut_unless(is_read).or(found))
 }
 
 // Reads what the case says of its file: where it is accepted its sides, its picture and its single form.
 fn check_said<R: Read>(data: &mut R, refusal: u16, file: &[u8]) -> io::Result<Option<Finding>> {
     if refusal != 0 {
-        return Ok(readers::check_read(answers::refused(refusal), file, b""));
+        return Ok(readers::check_read(Err(refusal), file, b""));
     }
     let mut sides: [u8; 4] = [0; 4];
     let is_read = read_exactly(data, &mut sides, 4)?;
-    let columns = decoding::unsigned16_at(&sides, 0);
-    let rows = decoding::unsigned16_at(&sides, 2);
-    let found = check_picture(data, answers::accepted(columns, rows), file)?;
+    let size = PictureSize {
+        columns: decoding::unsigned16_at(&sides, 0),
+        rows: decoding::unsigned16_at(&sides, 2),
+    };
+    let found = check_picture(data, size, file)?;
     Ok(cut_unless(is_read).or(found))
 }
 

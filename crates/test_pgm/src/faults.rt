@@ -2,7 +2,7 @@
 ghost use Rattle.std.specs.Prelude.{◌≤◌};
 
 use crate::parts::{Call, Finding};
-use crate::{answers, readers};
+use crate::readers;
 use pgm::PictureSize;
 use test_support::faults::Faults;
 use test_support::reporting::Tally;
@@ -85,11 +85,15 @@ fn picture_length(is_faulty: bool, variant: u32) -> usize {
     }
 }
 
-fn expected(refusal: u16) -> PictureSize {
-    if refusal == 0 {
-        return answers::accepted(2, 2);
+// The size of the file, or the first number of the set.
+fn expected(faults: Faults) -> Result<PictureSize, u16> {
+    match faults.first() {
+        0 => Ok(PictureSize {
+            columns: 2,
+            rows: 2,
+        }),
+        refusal => Err(refusal),
     }
-    answers::refused(refusal)
 }
 
 // The reader that is lent no picture gives the first number of the file's own faults.
@@ -100,10 +104,10 @@ fn check_set(faults: Faults) -> Option<Finding> {
     };
     let file = file_with(faults);
     let file = &file[..file_length(faults.has(18), faults.variant)];
-    let e = expected(faults.first());
+    let e = expected(faults);
     let n = picture_length(faults.has(5), faults.variant);
     let read = readers::check_places(Call::Reading(Room::Exact), e, file, b"\xFA\xFB\xFC\xFD", n);
-    readers::check_checking(expected(own.first()), file).or(read)
+    readers::check_checking(expected(own), file).or(read)
 }
 
 // The 32 sets.

@@ -8,41 +8,64 @@ use test_support::reading::rest;
 use test_support::reporting::Tally;
 use test_support::rooms::Room;
 
-// Two sides; the number of pixels, the place of the first and the size of the file, or refusal 1 and some numbers.
+// The number of pixels, the place of the first and the size of the file.
+#[derive(Clone, Copy)]
+struct Layout {
+    pixels: u16,
+    start: u16,
+    size: u16,
+}
+
+// The one of 2 by 2, whose lengths are lent for sides that have none.
+const SMALLEST: Layout = Layout {
+    pixels: 4,
+    start: 11,
+    size: 15,
+};
+
+// Two sides, and the layout of their file or refusal 1.
 #[derive(Clone, Copy)]
 struct Worked {
     columns: u16,
     rows: u16,
-    refusal: u16,
-    pixels: u16,
-    start: u16,
-    size: u16,
+    layout: Result<Layout, u16>,
+}
+
+impl Worked {
+    // The layout whose lengths are lent.
+    fn lent(self) -> Layout {
+        self.layout.unwrap_or(SMALLEST)
+    }
 }
 
 const SIDES: [u16; 6] = [0, 1, 2, 129, 130, 65535];
 
 // Only 2 and 129 are lawful.
 fn worked_of(columns: u16, rows: u16) -> Worked {
-    let (refusal, pixels, start, size) = match (columns, rows) {
-        (2, 2) => (0, 4, 11, 15),
-        (2, 129) => (0, 258, 13, 271),
-        (129, 2) => (0, 258, 13, 271),
-        (129, 129) => (0, 16641, 15, 16656),
-        _ => (1, 4, 11, 15),
+    let layout = match (columns, rows) {
+        (2, 2) => Ok(SMALLEST),
+        (2, 129) | (129, 2) => Ok(Layout {
+            pixels: 258,
+            start: 13,
+            size: 271,
+        }),
+        (129, 129) => Ok(Layout {
+            pixels: 16641,
+            start: 15,
+            size: 16656,
+        }),
+        _ => Err(1),
     };
     Worked {
         columns,
         rows,
-        refusal,
-        pixels,
-        start,
-        size,
+        layout,
     }
 }
 
 // What stands before the pixels, and zeros.
-fn header(w: Worked) -> [u8; 15] {
-    match (w.columns, w.rows) {
+fn header(columns: u16, rows: u16) -> [u8; 15] {
+    match (columns, rows) {
         (2, 2) => *b"P5\n2 2\n255\n\0\0\0\0",
         (2, _) => *b"P5\n2 129\n255\n\0\0",
         (_, 2) => *b"P5\n129 2\n255\n\0\0",
@@ -50,10 +73,14 @@ fn header(w: Worked) -> [u8; 15] {
     }
 }
 
+// What a call is to answer that answers the file's size.
+fn size_of(layout: Result<Layout, u16>) -> Result<usize, u16> {
+    layout.map(|layout| usize::from(layout.size))
+}
+
 fn check_size(w: Worked) -> Option<Finding> {
     let got = pgm::pgm_size(w.columns, w.rows);
-    let found = answers::compare_size(got, w.refusal, usize::from(w.size));
-    of_call(Call::Sizing, found)
+    of_call(Call::Sizing, answers::compare_size(got, size_of(w.layout)))
 }
 
 pub(crate) fn check_sizes() -> Tally<Finding> {
@@ -88,58 +115,62 @@ impl Lent {
             .map_or(0, |room| room.places(usize::from(size), AFTER))
     }
 
-    // The first of 1, 5 and 8.
-    fn answer(self, refusal: u16) -> u16 {
-        if refusal != 0 {
-            return refusal;
-        }
+    // What is written, or the first of 1, 5 and 8.
+    fn written(self, w: Worked) -> Result<Layout, u16> {
         match (self.picture, self.file) {
-            (Room::Exact, Some(Room::Exact)) => 0,
-            (Room::Exact, Some(Room::Longer)) => 0,
-            (Room::Exact, _) => 8,
-            _ => 5,
+            (Room::Exact, Some(Room::Exact | Room::Longer)) => w.layout,
+            (Room::Exact, _) => w.layout.and(Err(8)),
+            _ => w.layout.and(Err(5)),
         }
     }
 }
 
 // What an accepted writing leaves: a header, the pixels, and the bytes after them as they were.
-fn compare_file(w: Worked, picture: &[u8], out: &[u8]) -> Option<Finding> {
-    let start = usize::from(w.start);
-    let byte = first_difference(&header(w), out, start);
-    let pixel = first_difference(picture, rest(out, start), usize::from(w.pixels));
-    let kept = first_changed(out, usize::from(w.size), byte_filler);
+fn compare_file(w: Worked, layout: Layout, picture: &[u8], out: &[u8]) -> Option<Finding> {
+    let start = usize::from(layout.start);
+    let byte = first_difference(&header(w.columns, w.rows), out, start);
+    let pixel = first_difference(picture, rest(out, start), usize::from(layout.pixels));
+    let kept = first_changed(out, usize::from(layout.size), byte_filler);
     compared(Part::Byte, byte)
         .or(compared(Part::Pixel, pixel))
         .or(compared(Part::KeptByte, kept))
 }
 
 // What a writing leaves: a refused one all as it was.
-fn compare_left(w: Worked, refusal: u16, picture: &[u8], out: &[u8]) -> Option<Finding> {
-    if refusal != 0 {
-        return compared(Part::KeptByte, first_changed(out, 0, byte_filler));
+fn compare_left(
+    w: Worked,
+    written: Result<Layout, u16>,
+    picture: &[u8],
+    out: &[u8],
+) -> Option<Finding> {
+    match written {
+        Ok(layout) => compare_file(w, layout, picture, out),
+        Err(_) => compared(Part::KeptByte, first_changed(out, 0, byte_filler)),
     }
-    compare_file(w, picture, out)
 }
 
-fn check_lent(w: Worked, refusal: u16, picture: &[u8], out: &mut [u8]) -> Option<Finding> {
+fn check_lent(
+    w: Worked,
+    written: Result<Layout, u16>,
+    picture: &[u8],
+    out: &mut [u8],
+) -> Option<Finding> {
     fill(out, byte_filler);
     let got = pgm::write_pgm(w.columns, w.rows, picture, out);
-    answers::compare_size(got, refusal, usize::from(w.size)).or(compare_left(
-        w, refusal, picture, out,
-    ))
+    answers::compare_size(got, size_of(written)).or(compare_left(w, written, picture, out))
 }
 
 fn check_room(w: Worked, lent: Lent, picture: &[u8]) -> Option<Finding> {
     let mut out: [u8; MOST_ROOM] = [0; MOST_ROOM];
-    let n = lent.room(w.size).min(MOST_ROOM);
-    let found = check_lent(w, lent.answer(w.refusal), picture, &mut out[..n]);
+    let n = lent.room(w.lent().size).min(MOST_ROOM);
+    let found = check_lent(w, lent.written(w), picture, &mut out[..n]);
     of_call(Call::Writing(Room::Exact), found)
 }
 
 fn check_writing(w: Worked, lent: Lent) -> Option<Finding> {
     let mut pixels: [u8; MOST_PLACES] = [0; MOST_PLACES];
     fill(&mut pixels, byte_filler);
-    let n = usize::from(w.pixels).min(MOST_PIXELS) + 1;
+    let n = usize::from(w.lent().pixels).min(MOST_PIXELS) + 1;
     check_room(w, lent, lent.picture_of(&pixels[..n]))
 }
 

@@ -21,39 +21,43 @@ pub(crate) struct Written<'a> {
 
 // A writing into a filled buffer, and what it leaves: one that is accepted the file, and the bytes after it as they were; a
 // refused one all.
-fn check_writing(refusal: u16, w: Written, out: &mut [u8]) -> Option<Finding> {
+fn check_writing(e: Result<usize, u16>, w: Written, out: &mut [u8]) -> Option<Finding> {
     fill(out, byte_filler);
     let got = pgm::write_pgm(w.size.columns, w.size.rows, w.picture, out);
-    let size = if refusal == 0 { w.file.len() } else { 0 };
-    answers::compare_size(got, refusal, w.file.len())
+    let size = e.unwrap_or(0);
+    answers::compare_size(got, e)
         .or(compared(Part::Byte, first_difference(w.file, out, size)))
         .or(compared(Part::KeptByte, first_changed(out, size, byte_filler)))
 }
 
 // A writing into as many bytes as the file has, or into more or one fewer.
-fn check_room(call: Call, room: Room, refusal: u16, w: Written) -> Option<Finding> {
+fn check_room(call: Call, room: Room, e: Result<usize, u16>, w: Written) -> Option<Finding> {
     let mut out: [u8; MOST_ROOM] = [0; MOST_ROOM];
     let n = room.places(w.file.len(), AFTER).min(MOST_ROOM);
-    of_call(call, check_writing(refusal, w, &mut out[..n]))
+    of_call(call, check_writing(e, w, &mut out[..n]))
 }
 
 // 8 where the buffer lacks a byte.
 fn check_rooms(w: Written) -> Option<Finding> {
-    check_room(Call::Writing(Room::Exact), Room::Exact, 0, w)
-        .or(check_room(Call::Writing(Room::Longer), Room::Longer, 0, w))
-        .or(check_room(Call::Writing(Room::Shorter), Room::Shorter, 8, w))
+    let size = w.file.len();
+    check_room(Call::Writing(Room::Exact), Room::Exact, Ok(size), w)
+        .or(check_room(Call::Writing(Room::Longer), Room::Longer, Ok(size), w))
+        .or(check_room(Call::Writing(Room::Shorter), Room::Shorter, Err(8), w))
 }
 
 // A picture of another length: 5.
 fn check_picture(room: Room, w: Written, picture: &[u8]) -> Option<Finding> {
     let other = Written { picture, ..w };
-    check_room(Call::WritingPicture(room), Room::Exact, 5, other)
+    check_room(Call::WritingPicture(room), Room::Exact, Err(5), other)
 }
 
 // Reads the file that is written into a buffer: the picture.
 fn check_back(w: Written, out: &mut [u8]) -> Option<Finding> {
-    pgm::write_pgm(w.size.columns, w.size.rows, w.picture, out);
-    readers::check_places(Call::ReadingBack, w.size, out, w.picture, w.picture.len())
+    let got = pgm::write_pgm(w.size.columns, w.size.rows, w.picture, out);
+    let written = answers::compare_size(got, Ok(w.file.len()));
+    let places = w.picture.len();
+    let read = readers::check_places(Call::ReadingBack, Ok(w.size), out, w.picture, places);
+    of_call(Call::Writing(Room::Exact), written).or(read)
 }
 
 fn check_read_back(w: Written) -> Option<Finding> {
@@ -65,7 +69,7 @@ fn check_read_back(w: Written) -> Option<Finding> {
 // Writes a picture, of which a place more is lent: the single form. With that place, and with one place fewer: 5.
 pub(crate) fn check_written(w: Written, more: &[u8]) -> Option<Finding> {
     let got = pgm::pgm_size(w.size.columns, w.size.rows);
-    let size = answers::compare_size(got, 0, w.file.len());
+    let size = answers::compare_size(got, Ok(w.file.len()));
     of_call(Call::Sizing, size)
         .or(check_rooms(w))
         .or(check_picture(Room::Longer, w, more))
