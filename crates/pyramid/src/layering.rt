@@ -47,6 +47,7 @@ pub fn average_levels(lawful: LawfulSettings, work: &mut [i32])
     }
 }
 
+// Kept: the work buffer with the level's place, since the level above stands before it in the same buffer.
 // What row j of level l, which starts at `from`, is predicted to be: EXPAND of the level above it, or 0 at the top.
 fn predict_row(lawful: LawfulSettings, l: u16, from: usize, j: usize, work: &[i32], row: &mut [i32])
     requires l_le_depth { let s = lawful.shape.settings in (l ≤ s.depth) × (j < rows_at s l) × (total s ≤ length work.now)
@@ -69,6 +70,7 @@ fn predict_row(lawful: LawfulSettings, l: u16, from: usize, j: usize, work: &[i3
     }
 }
 
+// Kept beside `value_level`: this one reads the work buffer that the other writes, so that no closure could borrow it for both.
 // The indices of level l, from the averages.
 fn index_level(lawful: LawfulSettings, l: u16, work: &[i32], levels: &mut [i16])
     requires { let s = lawful.shape.settings in IndexLevel s l work.now levels.old }

@@ -136,6 +136,7 @@ fn accepted(
     Ok(lawful)
 }
 
+// Kept: the three buffers one by one, as in the exported functions: a coding writes two of them, a rebuilding two others.
 // Codes a picture: its indices in the level buffer, its averages in the work buffer.
 // Refused: 1, 13, 14, 15, 2, 3, 5, 6, 7.
 pub fn coding(
