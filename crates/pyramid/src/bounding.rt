@@ -22,12 +22,14 @@ pub fn bound_slots(s: Settings) -> [u16; 7]
     requires { Lawful s }
     ensures { result ≡ bound_slots s }
 {
+    // Of the settings only the bins are copied, which takes less stack.
+    let bins = s.bins;
     let top = usize::from(s.depth);
     let mut out: [u16; 7] = [0; 7];
-    let mut bound = s.bins[top] / 2;
+    let mut bound = bins[top] / 2;
     out[top] = bound;
     for l in (0..top).rev() {
-        bound = magnify(s.kernel, bound) + s.bins[l] / 2;
+        bound = magnify(s.kernel, bound) + bins[l] / 2;
         out[l] = bound;
     }
     out
