@@ -10,7 +10,7 @@ mod parts;
 mod pgm_reading;
 mod pgm_writing;
 mod pictures;
-mod refusals;
+mod refused;
 mod round;
 mod writing;
 
@@ -33,7 +33,7 @@ fn main(rt: HostRuntime) -> io::Result<()> {
     report(&mut out, "refused settings", numbers::refusals())?;
     report(&mut out, "coding and rebuilding", pictures::accepted())?;
     report(&mut out, "limits of rebuilding", pictures::limits())?;
-    report(&mut out, "refused calls", refusals::all())?;
+    report(&mut out, "refused calls", refused::all())?;
     report(&mut out, "small file, writing", files::written())?;
     report(&mut out, "small file, refused settings", files::unset())?;
     report(&mut out, "small file, reading", files::small())?;
