@@ -1,5 +1,6 @@
 // Calls whose outcome is known at every place of every buffer. A call that is refused must leave all as it was; one that is
 // accepted is lent a picture of one grey, or the levels of such a picture.
+// Kept: an expected answer is a number of document 01 and no `Refusal`, so that the numbers of the product are tested too.
 use crate::buffers::{Buffers, Lengths, Put, set};
 use pyramid::Settings;
 use refusals::answer_number;
@@ -7,6 +8,7 @@ use std::array;
 use test_support::fillers::index_filler;
 
 // The two calls.
+// Kept: they differ in the order of what they take and in what they leave: an enum names them, and a match says each in its place.
 #[derive(Clone, Copy)]
 pub(crate) enum Call {
     Coding,
@@ -28,6 +30,7 @@ pub(crate) fn answer_of(
 }
 
 // What a call answers and leaves that is lent the first places of the buffers.
+// Kept: call, settings, lengths and index are named at each use of `gives`, and are taken one by one here: a struct would only lie between.
 fn outcome(call: Call, s: Settings, n: Lengths, buffers: Buffers) -> (u16, Buffers) {
     let mut picture = buffers.picture;
     let mut levels = buffers.levels;

@@ -3,41 +3,11 @@ use crate::base::BASE;
 use crate::buffers::{Lengths, Put};
 use crate::calling;
 use crate::calling::Call;
-use test_support::faults::Faults;
+use test_support::faults::{Faults, check_sets};
 use test_support::reporting::Checks;
 
 // The numbers of the faults in their order. Coding does not look for the last.
 const NUMBERS: [u16; 10] = [1, 13, 14, 15, 2, 3, 5, 6, 7, 11];
-
-fn picture_length(is_faulty: bool, variant: u32) -> usize {
-    if !is_faulty {
-        45
-    } else if variant % 2 == 1 {
-        46
-    } else {
-        44
-    }
-}
-
-fn levels_length(is_faulty: bool, variant: u32) -> usize {
-    if !is_faulty {
-        66
-    } else if 2 <= variant {
-        67
-    } else {
-        65
-    }
-}
-
-fn work_length(is_faulty: bool, variant: u32) -> usize {
-    if is_faulty {
-        if 2 <= variant { 0 } else { 65 }
-    } else if variant % 2 == 1 {
-        70
-    } else {
-        66
-    }
-}
 
 // An index that is within 4,096: at bin 3 it is -4,095, which with 200 is -3,895.
 const LAWFUL: Put = Put {
@@ -47,51 +17,49 @@ const LAWFUL: Put = Put {
     pixel: 0,
 };
 
-// That, or an index times its bin beyond 4,096: at the first node of level 2, the last of level 0, the first of level 1, the last
-// of level 2.
-fn put(is_faulty: bool, variant: u32) -> Put {
-    let (place, index) = match variant {
-        0 => (0, 4097),
-        1 => (65, 1366),
-        2 => (6, -2049),
-        _ => (5, -4097),
-    };
-    if is_faulty {
-        Put {
-            place,
-            index,
-            value: 0,
-            pixel: 0,
-        }
-    } else {
-        LAWFUL
+// An index times its bin beyond 4,096.
+fn unlawful(place: usize, index: i16) -> Put {
+    Put {
+        place,
+        index,
+        value: 0,
+        pixel: 0,
     }
 }
 
-fn gives_first(call: Call, faults: &Faults) -> bool {
-    let variant = faults.variant;
-    let n = Lengths {
-        picture: picture_length(faults.has(5), variant),
-        levels: levels_length(faults.has(6), variant),
-        work: work_length(faults.has(7), variant),
-    };
-    let put = put(faults.has(11), variant);
-    calling::gives(call, faults.put_in(BASE), n, Some(put), faults.first())
+// That index, or with its fault one at the first node of level 2, the last of level 0, the first of level 1, the last of level 2.
+fn put(faults: Faults) -> Put {
+    let unlawful = [
+        unlawful(0, 4097),
+        unlawful(65, 1366),
+        unlawful(6, -2049),
+        unlawful(5, -4097),
+    ];
+    faults.choose(11, unlawful, [LAWFUL; 4])
+}
+
+// Buffers of the right lengths, the work buffer longer too; or with their faults too short and too long, the work buffer too short.
+fn lengths(faults: Faults) -> Lengths {
+    Lengths {
+        picture: faults.choose(5, [44, 46, 44, 46], [45; 4]),
+        levels: faults.choose(6, [65, 65, 67, 67], [66; 4]),
+        work: faults.choose(7, [65, 65, 0, 0], [66, 70, 66, 70]),
+    }
+}
+
+fn gives_first(call: Call, faults: Faults) -> bool {
+    let s = faults.put_in(BASE);
+    calling::gives(call, s, lengths(faults), Some(put(faults)), faults.first())
 }
 
 // The first sets of faults, four checks a set: 512 sets that coding looks for, 1,024 that rebuilding looks for.
-pub(crate) fn all(call: Call, sets: u32) -> Checks {
-    let table = NUMBERS;
-    let mut t = Checks::new();
-    for bits in 0..sets {
-        for variant in 0..4 {
-            let faults = Faults {
-                bits,
-                table: &table,
-                variant,
-            };
-            t.check(gives_first(call, &faults));
-        }
-    }
-    t
+pub(crate) fn all(call: Call, sets: u16) -> Checks {
+    check_sets(sets, |bits, variant| {
+        let faults = Faults {
+            bits,
+            table: &NUMBERS,
+            variant,
+        };
+        (!gives_first(call, faults)).then_some(())
+    })
 }

@@ -1,4 +1,5 @@
 // Settings with one fault each, at both ends of every range, in every function that takes settings.
+// Kept: answers are the numbers of document 01, 0 where nothing is refused, as `calling` compares them.
 use crate::base::BASE;
 use crate::buffers::Lengths;
 use crate::calling::Call;
@@ -8,6 +9,7 @@ use refusals::answer_number;
 use test_support::reporting::Checks;
 
 // A setting: C, R, N, k, or the bin of a slot.
+// Kept: each has a place and a rule of its own, so two matches of an enum, with no case forgotten, are plainer than closures for both.
 #[derive(Clone, Copy)]
 enum Setting {
     Columns,

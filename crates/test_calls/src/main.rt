@@ -13,35 +13,28 @@ mod shapes;
 
 use calling::Call;
 use std::io;
-use std::io::Write;
-use test_support::reporting;
-use test_support::reporting::Checks;
-
-// Writes the line of a group.
-fn report<W: Write>(out: &mut W, group: &str, t: Checks) -> io::Result<()> {
-    reporting::print_checks(out, group, &t)?;
-    Ok(())
-}
+use test_support::reporting::print_checks;
 
 fn main(rt: HostRuntime) -> io::Result<()> {
     let mut out = rt.stdout();
-    report(&mut out, "rounding", rounding::rounded())?;
-    report(&mut out, "bin rule", rounding::indices())?;
-    report(&mut out, "piece A", pieces::piece_a())?;
-    report(&mut out, "sizes", pieces::sizes())?;
-    report(&mut out, "deepest depth", pieces::deepest_depths())?;
-    report(&mut out, "index limit", pieces::index_limit())?;
-    report(&mut out, "faulty settings", faults::all())?;
-    report(&mut out, "ranges of indices", shapes::ranges())?;
-    report(&mut out, "lengths of buffers", lengths::all())?;
-    report(
+    print_checks(&mut out, "rounding", &rounding::rounded())?;
+    print_checks(&mut out, "bin rule", &rounding::indices())?;
+    print_checks(&mut out, "piece A", &pieces::piece_a())?;
+    print_checks(&mut out, "sizes", &pieces::sizes())?;
+    print_checks(&mut out, "deepest depth", &pieces::deepest_depths())?;
+    print_checks(&mut out, "index limit", &pieces::index_limit())?;
+    print_checks(&mut out, "faulty settings", &faults::all())?;
+    print_checks(&mut out, "ranges of indices", &shapes::ranges())?;
+    print_checks(&mut out, "lengths of buffers", &lengths::all())?;
+    print_checks(
         &mut out,
         "combinations of faults, coding",
-        combinations::all(Call::Coding, 512),
+        &combinations::all(Call::Coding, 512),
     )?;
-    report(
+    print_checks(
         &mut out,
         "combinations of faults, rebuilding",
-        combinations::all(Call::Rebuilding, 1024),
-    )
+        &combinations::all(Call::Rebuilding, 1024),
+    )?;
+    Ok(())
 }

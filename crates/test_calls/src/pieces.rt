@@ -9,6 +9,7 @@ use test_support::comparing::first_difference;
 use test_support::fillers::{first_changed, index_filler, work_filler};
 use test_support::reporting::Checks;
 
+// Kept: this converts nothing: it leaves out the five bins that no piece has.
 fn settings(columns: u16, rows: u16, depth: u16, kernel: u16, first: u16, second: u16) -> Settings {
     Settings {
         columns,
@@ -36,6 +37,7 @@ const AVERAGES_A: [i32; 13] = [25, 25, 25, 25, 0, 0, 0, 0, 100, 0, 0, 0, 0];
 const VALUES_A: [i32; 13] = [24, 24, 24, 24, -6, -6, -6, -6, 94, -6, -6, -6, -6];
 
 // What a rebuilding answers and leaves.
+// Kept: the answer is a number, as `answer_of` gives it.
 fn check_rebuilt(
     t: &mut Checks,
     answer: u16,

@@ -1,4 +1,5 @@
 // The calls on a shape alone and on a level buffer alone, and the test of a range of indices.
+// Kept: answers are the numbers of document 01, 0 where nothing is refused, as `calling` compares them.
 use pyramid::{IndexRange, Settings};
 use refusals::answer_number;
 use std::array;

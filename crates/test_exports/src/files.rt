@@ -1,4 +1,5 @@
 // A small file, byte after byte as document 01 has it, and a file of three levels.
+// Kept: refusals are numbers, since the exported functions answer numbers; `places` is the length of a buffer lent beside the file.
 use crate::handed::Handed;
 use crate::lent::{BEFORE, TALL};
 use crate::parts::Readings;
@@ -172,9 +173,8 @@ fn check_three_read(t: &mut Checks, file: &[u8], written: &[i16; 66]) {
 const THREE_START: &[u8] =
     b"\x04\x00\x05\x00\x09\x00\x02\x00\x03\x00\x03\x00\x02\x00\x04\x00\x07\x00\x02\x00\x01\x00\x00\xD0\x40\x02\x11\x00\x00\x00\x06\x00";
 
-// Whether a level's count and its indices stand at a place.
-fn has_level(file: &[u8], at: usize, levels: &[i16]) -> bool {
-    let section = rest(file, at);
+// Whether a section starts with a level's count and its indices.
+fn has_level(section: &[u8], levels: &[i16]) -> bool {
     let n = levels.len();
     usize::from(decoding::unsigned16_at(section, 0)) == n
         && indices(rest(section, 2), levels, n).is_none()
@@ -183,9 +183,9 @@ fn has_level(file: &[u8], at: usize, levels: &[i16]) -> bool {
 // What the writer leaves, and what the readers make of it.
 fn check_three(t: &mut Checks, file: &[u8; 170], levels: &[i16; 66]) {
     t.check(first_difference(file, THREE_START, 32).is_none());
-    t.check(has_level(file, 30, &levels[..6]));
-    t.check(has_level(file, 44, &levels[6..21]));
-    t.check(has_level(file, 76, &levels[21..]));
+    t.check(has_level(&file[30..], &levels[..6]));
+    t.check(has_level(&file[44..], &levels[6..21]));
+    t.check(has_level(&file[76..], &levels[21..]));
     t.check(first_changed(file, 168, byte_filler).is_none());
     check_three_read(t, &file[..168], levels);
 }

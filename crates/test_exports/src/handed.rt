@@ -1,4 +1,5 @@
 // What the readers hand out, in memory that is filled before with other numbers.
+// Kept: refusals are numbers, since the exported functions answer numbers.
 use crate::parts::Readings;
 use pyramid::Settings;
 

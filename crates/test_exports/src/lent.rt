@@ -20,6 +20,7 @@ pub(crate) const WIDE: Settings = Settings {
 };
 
 // What a lent number holds before a call; no call leaves it.
+// Kept: no kind, but what a number is before a call: it differs from all that are handed out.
 pub(crate) const BEFORE: u16 = 60001;
 
 // What lent bounds hold before a call.
@@ -27,6 +28,7 @@ pub(crate) const BOUNDS_BEFORE: [u16; 7] = [60011, 60012, 60013, 60014, 60015, 6
 
 // Settings with one fault, which the refusal names: a side of 130, a depth of 7, columns or rows that 2 to the depth does not divide less 1, a
 // kernel, or the bin of level 0. With 0 they are lawful.
+// Kept: the numbers of document 01, since the exported functions answer numbers.
 pub(crate) fn faulty(s: Settings, refusal: u16) -> Settings {
     let mut u = s;
     match refusal {

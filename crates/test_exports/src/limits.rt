@@ -1,4 +1,5 @@
 // The limits of indices and readings, in the writer and in both readers: a file of 3 by 2, N = 0, k = 5 with one index that is not 0.
+// Kept: refusals are numbers, since the exported functions answer numbers.
 use crate::handed::Handed;
 use crate::parts::Readings;
 use crate::writing::Contents;

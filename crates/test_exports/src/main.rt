@@ -10,43 +10,36 @@ mod parts;
 mod pgm_reading;
 mod pgm_writing;
 mod pictures;
-mod refusals;
+mod refused;
 mod round;
 mod writing;
 
 use std::io;
-use std::io::Write;
-use test_support::reporting;
-use test_support::reporting::Checks;
-
-// Writes the line of a group.
-fn report<W: Write>(out: &mut W, group: &str, t: Checks) -> io::Result<()> {
-    reporting::print_checks(out, group, &t)?;
-    Ok(())
-}
+use test_support::reporting::print_checks;
 
 fn main(rt: HostRuntime) -> io::Result<()> {
     let mut out = rt.stdout();
-    report(&mut out, "deepest depth", numbers::depths())?;
-    report(&mut out, "nodes and sizes", numbers::sizes())?;
-    report(&mut out, "bounds", numbers::level_bounds())?;
-    report(&mut out, "refused settings", numbers::refusals())?;
-    report(&mut out, "coding and rebuilding", pictures::accepted())?;
-    report(&mut out, "limits of rebuilding", pictures::limits())?;
-    report(&mut out, "refused calls", refusals::all())?;
-    report(&mut out, "small file, writing", files::written())?;
-    report(&mut out, "small file, refused settings", files::unset())?;
-    report(&mut out, "small file, reading", files::small())?;
-    report(&mut out, "file of three levels", files::three())?;
-    report(&mut out, "limits of indices", limits::indices())?;
-    report(&mut out, "limits of readings", limits::readings())?;
-    report(&mut out, "PGM sizes", pgm_writing::sizes())?;
-    report(&mut out, "PGM, writing", pgm_writing::accepted())?;
-    report(&mut out, "PGM, refused writing", pgm_writing::refusals())?;
-    report(&mut out, "PGM, reading", pgm_reading::files())?;
-    report(&mut out, "PGM, other lengths", pgm_reading::lengths())?;
-    report(&mut out, "PGM, bad headers", pgm_reading::headers())?;
-    report(&mut out, "PGM, refused reading", pgm_reading::refusals())?;
-    report(&mut out, "PGM, order of refusals", pgm_reading::order())?;
-    report(&mut out, "PGM to bale file to PGM", round::all())
+    print_checks(&mut out, "deepest depth", &numbers::depths())?;
+    print_checks(&mut out, "nodes and sizes", &numbers::sizes())?;
+    print_checks(&mut out, "bounds", &numbers::level_bounds())?;
+    print_checks(&mut out, "refused settings", &numbers::refusals())?;
+    print_checks(&mut out, "coding and rebuilding", &pictures::accepted())?;
+    print_checks(&mut out, "limits of rebuilding", &pictures::limits())?;
+    print_checks(&mut out, "refused calls", &refused::all())?;
+    print_checks(&mut out, "small file, writing", &files::written())?;
+    print_checks(&mut out, "small file, refused settings", &files::unset())?;
+    print_checks(&mut out, "small file, reading", &files::small())?;
+    print_checks(&mut out, "file of three levels", &files::three())?;
+    print_checks(&mut out, "limits of indices", &limits::indices())?;
+    print_checks(&mut out, "limits of readings", &limits::readings())?;
+    print_checks(&mut out, "PGM sizes", &pgm_writing::sizes())?;
+    print_checks(&mut out, "PGM, writing", &pgm_writing::accepted())?;
+    print_checks(&mut out, "PGM, refused writing", &pgm_writing::refusals())?;
+    print_checks(&mut out, "PGM, reading", &pgm_reading::files())?;
+    print_checks(&mut out, "PGM, other lengths", &pgm_reading::lengths())?;
+    print_checks(&mut out, "PGM, bad headers", &pgm_reading::headers())?;
+    print_checks(&mut out, "PGM, refused reading", &pgm_reading::refusals())?;
+    print_checks(&mut out, "PGM, order of refusals", &pgm_reading::order())?;
+    print_checks(&mut out, "PGM to bale file to PGM", &round::all())?;
+    Ok(())
 }

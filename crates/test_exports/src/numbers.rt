@@ -1,4 +1,5 @@
 // The calls that hand out numbers of a size or of settings. What they hand out is worked out by hand from document 01.
+// Kept: the exported functions answer numbers and take settings one by one; the three checks are such a call each, and hand out different types.
 use crate::lent::{BEFORE, BOUNDS_BEFORE, TALL, WIDE, faulty};
 use pyramid::Settings;
 use test_support::reporting::Checks;

@@ -1,4 +1,5 @@
 // PGM files that are read. What their headers mean is document 02's (P2).
+// Kept: refusals are numbers, since the exported functions answer numbers; `places` is the length of a buffer lent beside the file.
 use crate::lent::BEFORE;
 use crate::pgm_writing;
 use lepsarvu::pictures;

@@ -1,4 +1,5 @@
 // PGM pictures that are written, byte after byte as document 02 has them (P2).
+// Kept: refusals are numbers, since the exported functions answer numbers.
 use crate::lent::BEFORE;
 use lepsarvu::pictures;
 use test_support::comparing::first_difference;

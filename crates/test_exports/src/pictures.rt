@@ -73,6 +73,7 @@ pub(crate) fn accepted() -> Checks {
 }
 
 // Rebuilding of 3 columns and 2 rows, N = 0, k = 5, from one index that is not 0.
+// Kept: the exported function answers a number.
 fn rebuilding(bin: u16, index: i16, picture: &mut [u8; 6], work: &mut [i32; 7]) -> u16 {
     lepsarvu::lepsarvu_rebuilding(
         3,

@@ -1,4 +1,5 @@
 // The exported writer.
+// Kept: refusals are numbers, since the exported functions answer numbers.
 use crate::lent::BEFORE;
 use crate::parts::Readings;
 use pyramid::Settings;

@@ -1,10 +1,10 @@
 // What a call is to answer, a value or the number of a refusal, and how its answer differs.
-use crate::parts::{Finding, Part, compared};
+use crate::parts::{Finding, Part};
 use bale::{Bale, Code, Reading};
 use pyramid::Settings;
-use refusals::{Refusal, answer_number};
+use refusals::Refusal;
 use test_support::comparing::first_difference;
-use test_support::decoding;
+use test_support::{answers, decoding};
 
 // What a file holds: settings, and the kinds and the numbers of two readings.
 #[derive(Clone, Copy)]
@@ -33,17 +33,12 @@ pub(crate) fn held_in(said: &[u8]) -> Held {
 }
 
 // What a call is to answer: a value, or where the number is not 0 the refusal of that number.
+// Kept: the number of a refusal, as the vectors and document 01 have it: a test states it without the names of the product.
 pub(crate) fn expected<T: Copy>(number: u16, value: T) -> Result<T, u16> {
     match number {
         0 => Ok(value),
         refusal => Err(refusal),
     }
-}
-
-// The number of an answer, where it is not the one that is expected; 0 is that of a value.
-pub(crate) fn compare_number<T: Copy>(got: Result<T, Refusal>, expected: u16) -> Option<Finding> {
-    let number = answer_number(got);
-    (number != expected).then_some(Finding::of_part(Part::Refusal, usize::from(number)))
 }
 
 // C, R, N, k and then the bins.
@@ -85,13 +80,11 @@ fn compare_readings(b: Bale, e: Held) -> Option<Finding> {
 
 fn compare_bale(b: Bale, e: Held) -> Option<Finding> {
     let setting = first_difference(&numbers(b.settings), &numbers(e.settings), 11);
-    compared(Part::Setting, setting).or(compare_readings(b, e))
+    Finding::compared(Part::Setting, setting).or(compare_readings(b, e))
 }
 
 // The first difference of a reader's answer: the refusal, a setting, a reading.
+// Kept: what it shares with test_pgm is `answers::compare`; the values, and how they are compared, differ.
 pub(crate) fn compare(got: Result<Bale, Refusal>, e: Result<Held, u16>) -> Option<Finding> {
-    match (got, e) {
-        (Ok(b), Ok(e)) => compare_bale(b, e),
-        (_, e) => compare_number(got, e.err().unwrap_or(0)),
-    }
+    answers::compare(Part::Refusal, got, e, compare_bale)
 }

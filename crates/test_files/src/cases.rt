@@ -1,6 +1,6 @@
 // The cases of the vectors one after the other.
-use crate::answers::Held;
-use crate::parts::{Finding, Part, cut_unless};
+use crate::parts::{Finding, Part};
+use crate::readers::Case;
 use crate::reading::Head;
 use crate::{answers, readers, reading, writers};
 use std::io;
@@ -9,11 +9,10 @@ use test_support::reading::{Start, read_exactly, read_head};
 use test_support::reporting::Tally;
 
 // Both readers, and for an accepted file the writer.
-fn check_file(e: Result<Held, u16>, nodes: u16, file: &[u8], indices: &[u8]) -> Option<Finding> {
-    let checked = readers::check_checking(e, file);
-    let read = checked.or(readers::check_lent(e, nodes, file, indices));
-    match e {
-        Ok(_) => read.or(writers::check_written(nodes, file)),
+fn check_file(c: Case) -> Option<Finding> {
+    let read = readers::check_checking(c).or(readers::check_lent(c));
+    match c.expected {
+        Ok(_) => read.or(writers::check_written(c)),
         Err(_) => read,
     }
 }
@@ -23,8 +22,13 @@ fn check_said<R: Read>(data: &mut R, h: Head, file: &[u8]) -> io::Result<Option<
     let mut said: [u8; 32] = [0; 32];
     let mut indices: [u8; 44718] = [0; 44718];
     let is_read = reading::read_said(data, h, &mut said, &mut indices)?;
-    let e = answers::expected(h.refusal, answers::held_in(&said));
-    Ok(cut_unless(is_read).or(check_file(e, h.nodes, file, &indices)))
+    let case = Case {
+        expected: answers::expected(h.refusal, answers::held_in(&said)),
+        file,
+        nodes: h.nodes,
+        indices: &indices,
+    };
+    Ok(Finding::cut_unless(is_read, Part::EndOfVectors).or(check_file(case)))
 }
 
 // The longest file has 65,594 bytes.
@@ -36,7 +40,7 @@ fn check_case<R: Read>(data: &mut R, h: Head) -> io::Result<Option<Finding>> {
     let length = h.length as usize;
     let is_read = read_exactly(data, &mut file, length)?;
     let found = check_said(data, h, &file[..length.min(MOST)])?;
-    Ok(cut_unless(is_read).or(found))
+    Ok(Finding::cut_unless(is_read, Part::EndOfVectors).or(found))
 }
 
 // All cases to the end of the vectors. There are fewer than a million.

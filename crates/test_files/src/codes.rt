@@ -1,17 +1,16 @@
 // Readings and their codes by themselves, both ways.
-use crate::parts::{Call, Finding, Part, of_call};
+use crate::parts::{Call, Finding, Part};
 use crate::singles::Trial;
 use crate::{answers, singles};
 use bale::Code;
-use test_support::reporting::Tally;
+use test_support::answers::{compare, compare_number};
+use test_support::reporting::{Tally, of_call};
 
 fn compare_code(x: Trial) -> Option<Finding> {
-    match (bale::reading_code(x.reading), x.code) {
-        (Ok(code), Ok(e)) => {
-            (code != e).then_some(Finding::of_part(Part::Code, usize::from(code.kind)))
-        }
-        (got, e) => answers::compare_number(got, e.err().unwrap_or(0)),
-    }
+    let got = bale::reading_code(x.reading);
+    compare(Part::Refusal, got, x.code, |code, e| {
+        (code != e).then_some(Finding::of_part(Part::Code, usize::from(code.kind)))
+    })
 }
 
 // A code stands for a reading that holds it, or is refused with 4.
@@ -20,7 +19,7 @@ fn compare_reading(code: Code, is_lawful: bool) -> Option<Finding> {
         Ok(reading) if is_lawful => {
             (!answers::is_held(reading, code)).then_some(Finding::of_part(Part::ReadingHeld, 0))
         }
-        got => answers::compare_number(got, if is_lawful { 0 } else { 4 }),
+        got => compare_number(Part::Refusal, got, if is_lawful { 0 } else { 4 }),
     }
 }
 

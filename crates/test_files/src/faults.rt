@@ -1,12 +1,10 @@
 // Every set of the faults that the writer looks for, each fault in four variants: the first number of the set is the answer.
-ghost use Rattle.std.specs.Prelude.{◌≤◌};
-
 use crate::parts::Finding;
 use crate::writers::Written;
 use crate::{answers, piece_a, writers};
 use bale::{Note, Reading};
 use pyramid::Settings;
-use test_support::faults::Faults;
+use test_support::faults::{Faults, check_sets};
 use test_support::reporting::Tally;
 
 // The numbers of the faults in their order: six of the settings, which have the lowest bits of a set, then the writer's own.
@@ -44,31 +42,6 @@ fn lent_levels(is_faulty: bool, variant: u32) -> [i16; 14] {
     levels
 }
 
-fn lent_places(is_faulty: bool, variant: u32) -> usize
-    ensures { result ≤ 14 }
-{
-    if !is_faulty {
-        piece_a::NODES
-    } else if 2 <= variant {
-        piece_a::NODES + 1
-    } else {
-        piece_a::NODES - 1
-    }
-}
-
-// A buffer of the file's 58 bytes or of more, or with the fault of fewer.
-fn lent_room(is_faulty: bool, variant: u32) -> usize
-    ensures { result ≤ 64 }
-{
-    if is_faulty {
-        if 2 <= variant { 0 } else { 57 }
-    } else if variant % 2 == 1 {
-        64
-    } else {
-        58
-    }
-}
-
 // The size of a file of settings with those of the faults that are the settings'.
 fn check_size(faults: Faults, s: Settings) -> Option<Finding> {
     let own = Faults {
@@ -78,34 +51,35 @@ fn check_size(faults: Faults, s: Settings) -> Option<Finding> {
     writers::check_size(s, answers::expected(own.first(), 58))
 }
 
-// Lends the first places of the levels and the first bytes of a buffer.
+// Lends the first places of the levels, or with their fault one fewer or more; and the first bytes of a buffer, as many as the file
+// has or more, or with their fault fewer.
 fn check_set(faults: Faults) -> Option<Finding> {
     let variant = faults.variant;
     let levels = lent_levels(faults.has(11), variant);
+    let places = faults
+        .choose(6, [12, 12, 14, 14], [piece_a::NODES; 4])
+        .min(14);
     let mut out: [u8; 64] = [0; 64];
+    let room = faults.choose(8, [57, 57, 0, 0], [58, 64, 58, 64]).min(64);
     let written = Written {
         settings: faults.put_in(piece_a::SETTINGS),
         note: note(faults.has(4), variant),
-        levels: &levels[..lent_places(faults.has(6), variant)],
+        levels: &levels[..places],
     };
     let file = piece_a::file();
     let e = answers::expected(faults.first(), file.as_slice());
-    let room = lent_room(faults.has(8), variant);
     let found = writers::check_writing(e, written, &mut out[..room]);
     check_size(faults, written.settings).or(found)
 }
 
 // The 1,024 sets.
+// Kept: what it shares with test_pgm is `check_sets`; the table, the count of sets and the check differ.
 pub(crate) fn check_all() -> Tally<Finding> {
-    let mut tally = Tally::new();
-    for bits in 0..1024 {
-        for variant in 0..4 {
-            tally.count(check_set(Faults {
-                bits,
-                table: &NUMBERS,
-                variant,
-            }));
-        }
-    }
-    tally
+    check_sets(1024, |bits, variant| {
+        check_set(Faults {
+            bits,
+            table: &NUMBERS,
+            variant,
+        })
+    })
 }

@@ -69,18 +69,3 @@ impl fmt::Display for Part {
 }
 
 pub(crate) type Finding = reporting::Finding<Spot<Call, Part>>;
-
-// A part that differs at a place, where there is one.
-pub(crate) fn compared(part: Part, place: Option<usize>) -> Option<Finding> {
-    place.map(|place| Finding::of_part(part, place))
-}
-
-// A case that is cut, unless all of it was read.
-pub(crate) fn cut_unless(is_read: bool) -> Option<Finding> {
-    (!is_read).then_some(Finding::of_part(Part::EndOfVectors, 0))
-}
-
-// The same finding, of a call.
-pub(crate) fn of_call(call: Call, found: Option<Finding>) -> Option<Finding> {
-    found.map(|f| f.of_call(call))
-}

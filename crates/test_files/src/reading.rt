@@ -6,6 +6,7 @@ use test_support::reading::read_exactly;
 
 // How a case starts: the answer of the reader that is lent no level buffer; T, or 0 where the shape is refused; the file's length.
 #[derive(Clone, Copy)]
+// Kept: the number of a refusal stands in the bytes of the vectors, and is compared as it stands there.
 pub(crate) struct Head {
     pub refusal: u16,
     pub nodes: u16,

@@ -14,6 +14,7 @@ pub(crate) struct Trial {
     pub code: Result<Code, u16>,
 }
 
+// Kept: a kind is the byte that stands in the file, and is expected as such.
 fn lawful(reading: Reading, kind: u8, number: u32) -> Trial {
     Trial {
         reading,

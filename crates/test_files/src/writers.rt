@@ -1,11 +1,13 @@
 // The writer over what a file was read to hold.
-use crate::answers;
-use crate::parts::{Call, Finding, MOST_BYTES, MOST_PLACES, Part, compared, of_call};
+use crate::parts::{Call, Finding, MOST_BYTES, MOST_PLACES, Part};
+use crate::readers::Case;
 use bale::Note;
 use pyramid::Settings;
 use refusals::Refusal;
+use test_support::answers::{compare, compare_number};
 use test_support::comparing::first_difference;
 use test_support::fillers::{byte_filler, fill, first_changed};
+use test_support::reporting::of_call;
 use test_support::rooms::Room;
 
 // What is written.
@@ -17,10 +19,9 @@ pub(crate) struct Written<'a> {
 }
 
 fn compare_size(got: Result<usize, Refusal>, e: Result<usize, u16>) -> Option<Finding> {
-    match (got, e) {
-        (Ok(got), Ok(e)) => (got != e).then_some(Finding::of_part(Part::Size, got)),
-        (_, e) => answers::compare_number(got, e.err().unwrap_or(0)),
-    }
+    compare(Part::Refusal, got, e, |size, e| {
+        (size != e).then_some(Finding::of_part(Part::Size, size))
+    })
 }
 
 // The size of a file, or the refusal of its settings.
@@ -31,10 +32,9 @@ pub(crate) fn check_size(s: Settings, e: Result<usize, u16>) -> Option<Finding> 
 // What a writing leaves: the file, which is empty where it is refused, and the bytes after it as they were.
 fn compare_file(file: &[u8], out: &[u8]) -> Option<Finding> {
     let size = file.len();
-    compared(Part::Byte, first_difference(file, out, size)).or(compared(
-        Part::KeptByte,
-        first_changed(out, size, byte_filler),
-    ))
+    let byte = first_difference(file, out, size);
+    let kept = first_changed(out, size, byte_filler);
+    Finding::compared(Part::Byte, byte).or(Finding::compared(Part::KeptByte, kept))
 }
 
 // A writing into a filled buffer, of which a file is to be made, or which is refused.
@@ -75,13 +75,16 @@ fn check_read(file: &[u8], levels: &mut [i16]) -> Option<Finding> {
                 levels,
             },
         ),
-        got => of_call(Call::Reading(Room::Exact), answers::compare_number(got, 0)),
+        got => of_call(
+            Call::Reading(Room::Exact),
+            compare_number(Part::Refusal, got, 0),
+        ),
     }
 }
 
-// Writes what an accepted file with so many nodes is read to hold: the same bytes.
-pub(crate) fn check_written(nodes: u16, file: &[u8]) -> Option<Finding> {
+// Writes what an accepted file is read to hold: the same bytes.
+pub(crate) fn check_written(c: Case) -> Option<Finding> {
     let mut levels: [i16; MOST_PLACES] = [0; MOST_PLACES];
-    let n = usize::from(nodes).min(MOST_PLACES);
-    check_read(file, &mut levels[..n])
+    let n = usize::from(c.nodes).min(MOST_PLACES);
+    check_read(c.file, &mut levels[..n])
 }

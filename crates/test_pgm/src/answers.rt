@@ -1,13 +1,8 @@
 // How an answer differs from what is expected: a value, or the number of a refusal.
 use crate::parts::{Finding, Part};
 use pgm::PictureSize;
-use refusals::{Refusal, answer_number};
-
-// The number of an answer, where it is not the one that is expected; 0 is that of a value.
-fn compare_number<T: Copy>(got: Result<T, Refusal>, expected: u16) -> Option<Finding> {
-    let number = answer_number(got);
-    (number != expected).then_some(Finding::of_part(Part::Refusal, usize::from(number)))
-}
+use refusals::Refusal;
+use test_support::answers;
 
 fn compare_sides(got: PictureSize, e: PictureSize) -> Option<Finding> {
     if got.columns != e.columns {
@@ -20,20 +15,17 @@ fn compare_sides(got: PictureSize, e: PictureSize) -> Option<Finding> {
 }
 
 // The first difference of a reader's answer.
+// Kept: what it shares with test_files is `answers::compare`; the values, and how they are compared, differ.
 pub(crate) fn compare(
     got: Result<PictureSize, Refusal>,
     e: Result<PictureSize, u16>,
 ) -> Option<Finding> {
-    match (got, e) {
-        (Ok(got), Ok(e)) => compare_sides(got, e),
-        (_, e) => compare_number(got, e.err().unwrap_or(0)),
-    }
+    answers::compare(Part::Refusal, got, e, compare_sides)
 }
 
 // The first difference of a file's size.
 pub(crate) fn compare_size(got: Result<usize, Refusal>, e: Result<usize, u16>) -> Option<Finding> {
-    match (got, e) {
-        (Ok(got), Ok(e)) => (got != e).then_some(Finding::of_part(Part::Size, got)),
-        (_, e) => compare_number(got, e.err().unwrap_or(0)),
-    }
+    answers::compare(Part::Refusal, got, e, |size, e| {
+        (size != e).then_some(Finding::of_part(Part::Size, size))
+    })
 }

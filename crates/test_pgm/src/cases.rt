@@ -1,5 +1,7 @@
 // The cases of the vectors one after the other.
-use crate::parts::{Finding, MOST_PIXELS, MOST_PLACES, MOST_SINGLE, Part, cut_unless};
+// Kept: the number of a refusal stands in the bytes of the vectors, and is compared as it stands there.
+use crate::parts::{Finding, MOST_PIXELS, MOST_PLACES, MOST_SINGLE, Part};
+use crate::readers::Case;
 use crate::writers::Written;
 use crate::{parts, readers, writers};
 use pgm::PictureSize;
@@ -17,7 +19,12 @@ fn check_file(size: PictureSize, file: &[u8], more: &[u8], single: &[u8]) -> Opt
         picture,
         file: single,
     };
-    readers::check_read(Ok(size), file, picture).or(writers::check_written(written, more))
+    let case = Case {
+        expected: Ok(size),
+        file,
+        pixels: picture,
+    };
+    readers::check_read(case).or(writers::check_written(written, more))
 }
 
 // Reads the single form that a case says.
@@ -33,7 +40,7 @@ fn check_single<R: Read>(
     let n = decoding::unsigned32_at(&length, 0) as usize;
     let is_read = read_exactly(data, &mut single, n)?;
     let found = check_file(size, file, more, &single[..n.min(MOST_SINGLE)]);
-    Ok(cut_unless(is_said && is_read).or(found))
+    Ok(Finding::cut_unless(is_said && is_read, Part::EndOfVectors).or(found))
 }
 
 // Reads the picture that a case says.
@@ -46,13 +53,18 @@ fn check_picture<R: Read>(
     let n = usize::from(size.columns) * usize::from(size.rows);
     let is_read = read_exactly(data, &mut pixels, n)?;
     let found = check_single(data, size, file, &pixels[..n.min(MOST_PIXELS) + 1])?;
-    Ok(cut_unless(is_read).or(found))
+    Ok(Finding::cut_unless(is_read, Part::EndOfVectors).or(found))
 }
 
 // Reads what the case says of its file: where it is accepted its sides, its picture and its single form.
 fn check_said<R: Read>(data: &mut R, refusal: u16, file: &[u8]) -> io::Result<Option<Finding>> {
     if refusal != 0 {
-        return Ok(readers::check_read(Err(refusal), file, b""));
+        let case = Case {
+            expected: Err(refusal),
+            file,
+            pixels: b"",
+        };
+        return Ok(readers::check_read(case));
     }
     let mut sides: [u8; 4] = [0; 4];
     let is_read = read_exactly(data, &mut sides, 4)?;
@@ -61,7 +73,7 @@ fn check_said<R: Read>(data: &mut R, refusal: u16, file: &[u8]) -> io::Result<Op
         rows: decoding::unsigned16_at(&sides, 2),
     };
     let found = check_picture(data, size, file)?;
-    Ok(cut_unless(is_read).or(found))
+    Ok(Finding::cut_unless(is_read, Part::EndOfVectors).or(found))
 }
 
 // The longest file has 65,551 bytes.
@@ -72,7 +84,7 @@ fn check_case<R: Read>(data: &mut R, refusal: u16, length: usize) -> io::Result<
     let mut file: [u8; MOST] = [0; MOST];
     let is_read = read_exactly(data, &mut file, length)?;
     let found = check_said(data, refusal, &file[..length.min(MOST)])?;
-    Ok(cut_unless(is_read).or(found))
+    Ok(Finding::cut_unless(is_read, Part::EndOfVectors).or(found))
 }
 
 // All cases, and those of each answer that the vectors hold.

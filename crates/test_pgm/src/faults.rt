@@ -1,10 +1,9 @@
 // Every set of the faults that the reader looks for, each fault in four variants: the first number of the set is the answer.
-ghost use Rattle.std.specs.Prelude.{◌≤◌};
-
 use crate::parts::{Call, Finding};
 use crate::readers;
+use crate::readers::Case;
 use pgm::PictureSize;
-use test_support::faults::Faults;
+use test_support::faults::{Faults, check_sets};
 use test_support::reporting::Tally;
 use test_support::rooms::Room;
 
@@ -57,34 +56,6 @@ fn file_with(faults: Faults) -> [u8; 20] {
     file
 }
 
-// A pixel fewer and one more, none, and 9.
-fn file_length(is_faulty: bool, variant: u32) -> usize
-    ensures { result ≤ 20 }
-{
-    if !is_faulty {
-        return 15;
-    }
-    match variant {
-        0 => 14,
-        1 => 16,
-        2 => 11,
-        _ => 20,
-    }
-}
-
-// A place more and one fewer, none, and twice as many.
-fn picture_length(is_faulty: bool, variant: u32) -> usize {
-    if !is_faulty {
-        return 4;
-    }
-    match variant {
-        0 => 5,
-        1 => 3,
-        2 => 0,
-        _ => 8,
-    }
-}
-
 // The size of the file, or the first number of the set.
 fn expected(faults: Faults) -> Result<PictureSize, u16> {
     match faults.first() {
@@ -96,31 +67,36 @@ fn expected(faults: Faults) -> Result<PictureSize, u16> {
     }
 }
 
-// The reader that is lent no picture gives the first number of the file's own faults.
+// The file, or with its fault a pixel fewer and one more, none, and 9; and of the picture its places, or with their fault one more and
+// one fewer, none, and twice as many. The reader that is lent no picture gives the first number of the file's own faults.
 fn check_set(faults: Faults) -> Option<Finding> {
     let own = Faults {
         bits: faults.bits % 16,
         ..faults
     };
     let file = file_with(faults);
-    let file = &file[..file_length(faults.has(18), faults.variant)];
-    let e = expected(faults);
-    let n = picture_length(faults.has(5), faults.variant);
-    let read = readers::check_places(Call::Reading(Room::Exact), e, file, b"\xFA\xFB\xFC\xFD", n);
-    readers::check_checking(expected(own), file).or(read)
+    let length = faults.choose(18, [14, 16, 11, 20], [15; 4]).min(20);
+    let places = faults.choose(5, [5, 3, 0, 8], [4; 4]);
+    let case = Case {
+        expected: expected(faults),
+        file: &file[..length],
+        pixels: b"\xFA\xFB\xFC\xFD",
+    };
+    let checked = readers::check_checking(Case {
+        expected: expected(own),
+        ..case
+    });
+    checked.or(readers::check_places(Call::Reading(Room::Exact), case, places))
 }
 
 // The 32 sets.
+// Kept: what it shares with test_files is `check_sets`; the table, the count of sets and the check differ.
 pub(crate) fn check_all() -> Tally<Finding> {
-    let mut tally = Tally::new();
-    for bits in 0..32 {
-        for variant in 0..4 {
-            tally.count(check_set(Faults {
-                bits,
-                table: &NUMBERS,
-                variant,
-            }));
-        }
-    }
-    tally
+    check_sets(32, |bits, variant| {
+        check_set(Faults {
+            bits,
+            table: &NUMBERS,
+            variant,
+        })
+    })
 }

@@ -11,23 +11,8 @@ mod sizes;
 mod texts;
 mod writers;
 
-use parts::Finding;
-use std::io::Write;
 use std::{fs, io};
-use test_support::reporting;
-use test_support::reporting::{Checks, Tally};
-
-// Writes the line of a group of cases.
-fn print<W: Write>(out: &mut W, group: &str, t: Tally<Finding>) -> io::Result<()> {
-    reporting::print_cases(out, group, &t)?;
-    Ok(())
-}
-
-// Writes the line of a group of checks.
-fn print_checks<W: Write>(out: &mut W, group: &str, t: Checks) -> io::Result<()> {
-    reporting::print_checks(out, group, &t)?;
-    Ok(())
-}
+use test_support::reporting::{print_cases, print_checks};
 
 // Runs the cases of the vectors and writes their lines: all, and those of each answer that they say.
 fn report(rt: &HostRuntime, path: &str) -> io::Result<()> {
@@ -36,29 +21,35 @@ fn report(rt: &HostRuntime, path: &str) -> io::Result<()> {
     };
     let found = cases::check_all(&mut data)?;
     let mut out = rt.stdout();
-    print(&mut out, path, found.all)?;
-    print(&mut out, "accepted", found.accepted)?;
-    print(&mut out, "refused with 1", found.size)?;
-    print(&mut out, "refused with 16", found.header)?;
-    print(&mut out, "refused with 17", found.greatest)?;
-    print(&mut out, "refused with 18", found.pixels)
+    print_cases(&mut out, path, &found.all)?;
+    print_cases(&mut out, "accepted", &found.accepted)?;
+    print_cases(&mut out, "refused with 1", &found.size)?;
+    print_cases(&mut out, "refused with 16", &found.header)?;
+    print_cases(&mut out, "refused with 17", &found.greatest)?;
+    print_cases(&mut out, "refused with 18", &found.pixels)?;
+    Ok(())
 }
 
 fn main(rt: HostRuntime) -> io::Result<()> {
     report(&rt, "pgm.bin")?;
     let mut out = rt.stdout();
-    print(&mut out, "sets of faults, reading", faults::check_all())?;
-    print(&mut out, "sizes of files", sizes::check_sizes())?;
-    print(&mut out, "sets of faults, writing", sizes::check_writings())?;
+    print_cases(&mut out, "sets of faults, reading", &faults::check_all())?;
+    print_cases(&mut out, "sizes of files", &sizes::check_sizes())?;
+    print_cases(
+        &mut out,
+        "sets of faults, writing",
+        &sizes::check_writings(),
+    )?;
     print_checks(
         &mut out,
         "numbers in decimal, writing",
-        numbers::check_all(),
+        &numbers::check_all(),
     )?;
     print_checks(
         &mut out,
         "numbers in decimal, digits and limits",
-        texts::lengths(),
+        &texts::lengths(),
     )?;
-    print_checks(&mut out, "numbers in decimal, places", texts::places())
+    print_checks(&mut out, "numbers in decimal, places", &texts::places())?;
+    Ok(())
 }

@@ -1,4 +1,5 @@
 // Numbers written in decimal: their digits are written out by hand.
+// Kept: `put_decimal` takes a buffer and a place, at and past its end too: that is what is tested here.
 use test_support::comparing::first_difference;
 use test_support::fillers::{byte_filler, fill, first_changed};
 use test_support::reading::rest;

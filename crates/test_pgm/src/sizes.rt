@@ -1,11 +1,11 @@
 // Sizes and writings of every two sides that are at the ends of their range, beside it or at the ends of their type. What they are to be is worked by hand.
-use crate::parts::{Call, Finding, MOST_PIXELS, MOST_PLACES, Part, compared, of_call};
+use crate::parts::{Call, Finding, MOST_PIXELS, MOST_PLACES, Part};
 use crate::writers::{AFTER, MOST_ROOM};
 use crate::{answers, parts};
 use test_support::comparing::first_difference;
 use test_support::fillers::{byte_filler, fill, first_changed};
 use test_support::reading::rest;
-use test_support::reporting::Tally;
+use test_support::reporting::{Tally, of_call};
 use test_support::rooms::Room;
 
 // The number of pixels, the place of the first and the size of the file.
@@ -131,9 +131,9 @@ fn compare_file(w: Worked, layout: Layout, picture: &[u8], out: &[u8]) -> Option
     let byte = first_difference(&header(w.columns, w.rows), out, start);
     let pixel = first_difference(picture, rest(out, start), usize::from(layout.pixels));
     let kept = first_changed(out, usize::from(layout.size), byte_filler);
-    compared(Part::Byte, byte)
-        .or(compared(Part::Pixel, pixel))
-        .or(compared(Part::KeptByte, kept))
+    Finding::compared(Part::Byte, byte)
+        .or(Finding::compared(Part::Pixel, pixel))
+        .or(Finding::compared(Part::KeptByte, kept))
 }
 
 // What a writing leaves: a refused one all as it was.
@@ -145,7 +145,10 @@ fn compare_left(
 ) -> Option<Finding> {
     match written {
         Ok(layout) => compare_file(w, layout, picture, out),
-        Err(_) => compared(Part::KeptByte, first_changed(out, 0, byte_filler)),
+        Err(_) => {
+            let kept = first_changed(out, 0, byte_filler);
+            Finding::compared(Part::KeptByte, kept)
+        }
     }
 }
 

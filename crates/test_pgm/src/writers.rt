@@ -1,9 +1,11 @@
 // The writer over an accepted file's picture.
-use crate::parts::{Call, Finding, MOST_SINGLE, Part, compared, of_call};
+use crate::parts::{Call, Finding, MOST_SINGLE, Part};
+use crate::readers::Case;
 use crate::{answers, parts, readers};
 use pgm::PictureSize;
 use test_support::comparing::first_difference;
 use test_support::fillers::{byte_filler, fill, first_changed};
+use test_support::reporting::of_call;
 use test_support::rooms::Room;
 
 // The longer file buffer has 24 bytes after those of the file.
@@ -25,9 +27,11 @@ fn check_writing(e: Result<usize, u16>, w: Written, out: &mut [u8]) -> Option<Fi
     fill(out, byte_filler);
     let got = pgm::write_pgm(w.size.columns, w.size.rows, w.picture, out);
     let size = e.unwrap_or(0);
+    let byte = first_difference(w.file, out, size);
+    let kept = first_changed(out, size, byte_filler);
     answers::compare_size(got, e)
-        .or(compared(Part::Byte, first_difference(w.file, out, size)))
-        .or(compared(Part::KeptByte, first_changed(out, size, byte_filler)))
+        .or(Finding::compared(Part::Byte, byte))
+        .or(Finding::compared(Part::KeptByte, kept))
 }
 
 // A writing into as many bytes as the file has, or into more or one fewer.
@@ -55,8 +59,12 @@ fn check_picture(room: Room, w: Written, picture: &[u8]) -> Option<Finding> {
 fn check_back(w: Written, out: &mut [u8]) -> Option<Finding> {
     let got = pgm::write_pgm(w.size.columns, w.size.rows, w.picture, out);
     let written = answers::compare_size(got, Ok(w.file.len()));
-    let places = w.picture.len();
-    let read = readers::check_places(Call::ReadingBack, Ok(w.size), out, w.picture, places);
+    let case = Case {
+        expected: Ok(w.size),
+        file: out,
+        pixels: w.picture,
+    };
+    let read = readers::check_places(Call::ReadingBack, case, w.picture.len());
     of_call(Call::Writing(Room::Exact), written).or(read)
 }
 

@@ -5,3 +5,4 @@ pub mod Tallies
 pub mod FaultSets
 pub mod FaultySettings
 pub mod Rooms
+pub mod Answers

@@ -38,6 +38,7 @@ fn holds<T: PartialEq>(buffer: &[T], i: usize, expected: &T) -> bool
 }
 
 // Of the first n places, the first at which two buffers differ.
+// Kept: n is what should be compared: a place before n that a buffer lacks counts as different, which a sub-slice could not say.
 pub fn first_difference<T: PartialEq>(a: &[T], b: &[T], n: usize) -> Option<usize>
     ensures { result ≡ first_difference T.eq n a.now b.now }
 {
@@ -69,6 +70,7 @@ fn is_index(bytes: &[u8], levels: &[i16], i: usize) -> bool
 }
 
 // Of the first n places, the first at which a level buffer differs from the indices that bytes hold.
+// Kept: n as of `first_difference`, from which it differs in the test of a place alone: what both share is `first_failure`.
 pub fn indices(bytes: &[u8], levels: &[i16], n: usize) -> Option<usize>
     ensures { result ≡ first_other_index n bytes.now levels.now }
 {

@@ -1,4 +1,5 @@
 // Little-endian numbers and settings from bytes. A byte past the end counts as 0.
+// Kept: a place may be past the end, so `from_le_bytes` joins bytes taken one by one; and the tests share no code with the decoding they test.
 ghost use Rattle.std.specs.Prelude.{◌≡◌, get_or};
 ghost use Rattle.test_support.specs.Definitions.Numbers.{unsigned16, unsigned32, signed16, signed32, settings};
 
@@ -32,6 +33,7 @@ pub fn unsigned32_at(bytes: &[u8], at: usize) -> u32
 }
 
 // Two's complement of 16 bits.
+// Kept: of the two signed numbers each is one call of its own width.
 pub fn signed16_at(bytes: &[u8], at: usize) -> i16
     ensures { result ≡ signed16 bytes.now at }
 {

@@ -1,8 +1,11 @@
 // Sets of faults: one bit for each number of a table, the lowest bit for the first. A fault has four variants: 0, 1, 2, and any other.
-ghost use Rattle.std.specs.Prelude.{◌≡◌, cond, ◌<◌, min};
+// Kept: faults are the numbers of documents 01 and 02, which the tests state without the names of the product.
+ghost use Rattle.std.specs.Prelude.{◌≡◌, ℕ, cond, ◌<◌, ◌*◌, ◌/◌, ◌%◌, min, Option, Some, slice_get};
 ghost use Rattle.test_support.specs.Definitions.FaultSets.{chosen, member, first};
 ghost use Rattle.test_support.specs.Definitions.FaultySettings.{outside, side_with, with_sides, with_depth, with_kernel, with_bins, with_faults};
+ghost use Rattle.test_support.specs.Definitions.Tallies.{tallied};
 
+use crate::reporting::Tally;
 use pyramid::Settings;
 
 // A set of faults, as bits of a table, and which variant of each.
@@ -42,6 +45,18 @@ impl<'a> Faults<'a> {
         0
     }
 
+    // What the variant has with a fault of the set, and what it has without.
+    pub fn choose<T: Copy>(&self, number: u16, faulty: [T; 4], lawful: [T; 4]) -> T
+        ensures { Some result ≡ slice_get (cond (member number (chosen self.now.bits self.now.table.now)) faulty lawful) (min self.now.variant 3) }
+    {
+        let variant = self.variant.min(3) as usize;
+        if self.has(number) {
+            faulty[variant]
+        } else {
+            lawful[variant]
+        }
+    }
+
     // Settings with those of the faults 1, 13, 14, 15, 2 and 3 that are in the set: sides, a depth, a kernel, bins.
     pub fn put_in(&self, s: Settings) -> Settings
         ensures { result ≡ with_faults s (chosen self.now.bits self.now.table.now) self.now.variant }
@@ -51,6 +66,19 @@ impl<'a> Faults<'a> {
         let k = with_kernel(b, self.has(2), self.variant);
         with_sides(k, self.has(1), self.has(14), self.has(15), self.variant)
     }
+}
+
+// What is found in the first sets of faults, by their bits, each in its four variants.
+pub fn check_sets<F: Copy, C: Fn(u32, u32) -> Option<F>>(sets: u16, check: C) -> Tally<F>
+    requires { (bits variant : ℕ) → C.pre check bits variant }
+    ensures { (found : ℕ → ℕ → Option F) → ((bits variant : ℕ) (r : Option F) → C.post check bits variant r → r ≡ found bits variant)
+        → result ≡ tallied (λ n. found (n / 4) (n % 4)) (4 * sets) }
+{
+    let mut tally = Tally::new();
+    for n in 0..4 * u32::from(sets) {
+        tally.count(check(n / 4, n % 4));
+    }
+    tally
 }
 
 // The slot of a number, or the last.

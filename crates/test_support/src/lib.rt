@@ -1,6 +1,7 @@
-// What the test programs share: numbers from bytes, cases from a file, filled and compared buffers, counts, and sets of faults.
+// What the test programs share: numbers from bytes, cases from a file, filled and compared buffers, compared answers, counts, and sets of faults.
 #![tactic(auto)]
 
+pub mod answers;
 pub mod comparing;
 pub mod decoding;
 pub mod faults;

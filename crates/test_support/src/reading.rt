@@ -10,6 +10,7 @@ use std::io;
 use std::io::Read;
 
 // Reads until a buffer is full or the data ends, and answers how many bytes were read, to the buffer's start.
+// Kept: how many reads it takes is not known before; and `lintlist`, a program of the product, has this loop of its own and no code of the tests.
 pub fn read_full<R: Read>(source: &mut R, bytes: &mut [u8]) -> io::Result<usize>
     ensures bound { IfOk result (λ n. n ≤ length bytes.new) }
     ensures taken { IfOk result (λ n. Consumes (R.remaining source.old) (R.remaining source.new) (take n bytes.new)) }
@@ -27,6 +28,7 @@ pub fn read_full<R: Read>(source: &mut R, bytes: &mut [u8]) -> io::Result<usize>
 }
 
 // Reads n bytes to the start of a buffer; false where the data ends before, or the buffer, which then is not changed.
+// Kept: n is read from the data, and may be more than the buffer holds.
 pub fn read_exactly<R: Read>(source: &mut R, bytes: &mut [u8], n: usize) -> io::Result<bool>
     ensures length { length bytes.new ≡ length bytes.old }
     ensures room { IfOk result (λ is_read. is_read ≡ true → n ≤ length bytes.old) }
@@ -65,6 +67,7 @@ pub fn read_head<R: Read>(source: &mut R, head: &mut [u8]) -> io::Result<Start>
 }
 
 // The bytes from a place on; none where there is no such place.
+// Kept: it makes the sub-slice, also from a place past the end.
 pub fn rest(bytes: &[u8], from: usize) -> &[u8]
     ensures { result.now ≡ drop from bytes.now }
 {

@@ -55,6 +55,30 @@ impl<C: Copy, P: Copy> Finding<Spot<C, P>> {
         };
         Finding { part, ..self }
     }
+
+    // A part that differs at a place, where there is one, of no call.
+    pub fn compared(part: P, place: Option<usize>) -> Option<Self>
+        ensures { result ≡ option_map (λ k. record { part = record { call = None; part = part }; place = k }) place }
+    {
+        place.map(|place| Finding::of_part(part, place))
+    }
+
+    // A case that is cut, unless all of it was read.
+    pub fn cut_unless(is_read: bool, cut: P) -> Option<Self>
+        ensures { result ≡ cond is_read None (Some (record { part = record { call = None; part = cut }; place = 0 })) }
+    {
+        (!is_read).then_some(Finding::of_part(cut, 0))
+    }
+}
+
+// What is found, of a call.
+pub fn of_call<C: Copy, P: Copy>(
+    call: C,
+    found: Option<Finding<Spot<C, P>>>,
+) -> Option<Finding<Spot<C, P>>>
+    ensures { result ≡ option_map (λ f. record { part = record { call = Some call; part = f.part.part }; place = f.place }) found }
+{
+    found.map(|f| f.of_call(call))
 }
 
 // A part that differs at a place, where there is one.

@@ -16,6 +16,7 @@ pub(crate) enum Kind {
 }
 
 // Reads and checks the case that starts with these settings.
+// Kept: a kind of file is named where it is opened, and one match finds its check; closures would take the reader and the buffer besides.
 fn check_case<R: Read>(kind: Kind, data: &mut R, head: &[u8]) -> io::Result<Option<Finding>> {
     let mut case: [u8; MOST_BYTES] = [0; MOST_BYTES];
     let Some(z) = Shape::of(decoding::settings_of(head)) else {

@@ -1,4 +1,5 @@
 // The first place at which a buffer differs from what a vector's bytes hold.
+// Kept: n comes from the settings, and a place before n that a buffer lacks counts as different, which a sub-slice could not say.
 ghost use Rattle.std.specs.Prelude.{◌≤◌};
 
 use test_support::comparing::first_other;

@@ -1,5 +1,6 @@
 // The cases of the file `levels`: a rebuilding from levels that no coding made, accepted or refused. A case has its indices,
 // the answer and, if it is accepted, the values and the picture.
+// Kept: the answer is a number in the bytes of the vectors, and is compared as it stands there.
 use crate::parts::{Finding, Part};
 use crate::rebuilding;
 use crate::shape::{MOST_BYTES, Shape};

@@ -1,4 +1,5 @@
 // A rebuilding, accepted or refused.
+// Kept: the answer that is expected is a number in the bytes of the vectors, and is compared as it stands there.
 use crate::comparing;
 use crate::parts::{Finding, Part};
 use crate::shape::{AFTER, MOST_NODES, MOST_PIXELS, MOST_PLACES, Shape};

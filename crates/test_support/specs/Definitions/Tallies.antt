@@ -1,5 +1,5 @@
 -- The count of cases and mismatches. Assumes nothing.
-use Rattle.std.specs.Prelude.{ℕ, ◌+◌, min, Option, None, Some}
+use Rattle.std.specs.Prelude.{ℕ, zero, suc, ◌+◌, min, Option, None, Some}
 use Rattle.std.specs.Option.{option_or}
 use Rattle.test_support.specs.declared.reporting.Tally.{Tally}
 
@@ -20,3 +20,8 @@ module _ {F : Type 0} where
         mismatches = next t.mismatches;
         first = option_or t.first (Some (record { case = next t.cases; found = found }));
       }
+
+  -- the tally of what is found in each of the first n cases
+  abbrev pub tallied : (ℕ → Option F) → ℕ → Tally F
+  tallied found zero = empty
+  tallied found (suc n) = counted (tallied found n) (found n)

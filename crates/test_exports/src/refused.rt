@@ -1,4 +1,5 @@
 // Coding and rebuilding that are refused, with what they leave: all as it was.
+// Kept: refusals are numbers, since the exported functions answer numbers; either the settings are faulty or the lengths, so they stand apart.
 use crate::lent::faulty;
 use crate::pictures::{NODES, PIXELS, SETTINGS};
 use pyramid::Settings;

@@ -1,0 +1,36 @@
+// How a call's answer differs from what is expected of it: a value, or the number of a refusal.
+ghost use Rattle.std.specs.Prelude.{◌≡◌};
+ghost use Rattle.refusals.specs.Definitions.Outcomes.{answer_number};
+ghost use Rattle.test_support.specs.Definitions.Answers.{other_number, other_answer};
+
+use crate::reporting::{Finding, Spot};
+use refusals::{Refusal, answer_number};
+
+// The number of an answer, where it is not the one that is expected; 0 is that of a value.
+// Kept: the documents name refusals by their numbers, and the vectors hold these: the tests state numbers, whatever names the product has.
+pub fn compare_number<T: Copy, C: Copy, P: Copy>(
+    part: P,
+    got: Result<T, Refusal>,
+    expected: u16,
+) -> Option<Finding<Spot<C, P>>>
+    ensures { result ≡ other_number part (answer_number got) expected }
+{
+    let number = answer_number(got);
+    (number != expected).then_some(Finding::of_part(part, usize::from(number)))
+}
+
+// A value as `values` compares it, and where the call is refused, or is to be, the numbers.
+pub fn compare<T: Copy, E: Copy, C: Copy, P: Copy, F: Fn(T, E) -> Option<Finding<Spot<C, P>>>>(
+    part: P,
+    got: Result<T, Refusal>,
+    expected: Result<E, u16>,
+    values: F,
+) -> Option<Finding<Spot<C, P>>>
+    requires { (x : T) (e : E) → F.pre values x e }
+    ensures { (f : T → E → _) → ((x : T) (e : E) (r : _) → F.post values x e r → r ≡ f x e) → result ≡ other_answer part f got expected }
+{
+    match (got, expected) {
+        (Ok(x), Ok(e)) => values(x, e),
+        (_, e) => compare_number(part, got, e.err().unwrap_or(0)),
+    }
+}
