@@ -14,6 +14,7 @@ use pyramid::IndexRange;
 use refusals::Refusal;
 
 // A section's count, and whether its items are all there.
+// Kept: a file and a place in it (places.rt).
 pub fn check_section(file: &[u8], at: usize, count: u16, size: usize) -> Result<(), Refusal>
     requires { (at ≤ 500000) × (size ≤ 5) }
     ensures { result ≡ outcome (section_refusal file.now at count size) tt }

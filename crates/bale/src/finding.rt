@@ -1,4 +1,5 @@
 // What a file holds at which place: settings and readings, past the end too (document 01, "Bale file").
+// Kept: a file and a place in it, since a reader looks past the file's end too (places.rt).
 ghost use Rattle.std.specs.Prelude.{◌≡◌, ◌≤◌};
 ghost use Rattle.refusals.specs.Definitions.Outcomes.{outcome};
 ghost use Rattle.mathematics.specs.Definitions.Tables.{tabulate};

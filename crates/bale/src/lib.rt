@@ -37,6 +37,7 @@ pub struct Note {
 }
 
 // The kind byte and the number that stand for a reading in a file.
+// Kept: the kind is the byte that the file holds, any of 256; `Reading` is what it stands for.
 #[derive(Clone, Copy, PartialEq, Eq)]
 pub struct Code {
     pub kind: u8,

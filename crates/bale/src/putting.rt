@@ -1,4 +1,5 @@
 // The sections of a file, one after the other, into the writer's buffer (document 01, "Bale file").
+// Kept: a buffer and a place in it (places.rt).
 ghost use Rattle.std.specs.Prelude.{◌≡◌, ◌++◌, ◌∷◌, map, ◌+◌, ◌*◌, ◌≤◌, T, length, drop};
 ghost use Rattle.mathematics.specs.Inner.Splices.{splice};
 ghost use Rattle.pyramid.specs.Definitions.Sizes.{total};

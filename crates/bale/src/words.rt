@@ -1,9 +1,11 @@
 // Numbers in a buffer of bytes, low byte first, and indices in two's complement (document 01, "Bale file").
+// Kept: a buffer and a place in it, since the sections stand at places that follow from the settings (places.rt).
 ghost use Rattle.std.specs.Prelude.{◌≡◌, ◌+◌, ◌≤◌, length, get_or};
 ghost use Rattle.mathematics.specs.Inner.Splices.{splice};
 ghost use Rattle.bale.specs.Definitions.Words.{le16, le32, u16_at, u32_at, index_word};
 
 // The byte at a place, and 0 past the end.
+// Kept beside test_support's: the product and its tests share no code.
 pub fn byte_at(bytes: &[u8], at: usize) -> u8
     ensures { result ≡ get_or bytes.now at 0 }
 {
@@ -32,6 +34,7 @@ pub fn u32_at(bytes: &[u8], at: usize) -> u32
 }
 
 // Bytes, at a place.
+// Kept beside pgm's: one call of `copy_from_slice` with its contract, and neither crate stands on the other.
 pub fn put(file: &mut [u8], at: usize, bytes: &[u8])
     requires { at + length bytes.now ≤ length file.old }
     ensures { file.new ≡ splice at bytes.now file.old }

@@ -13,6 +13,7 @@ pub struct Number {
 }
 
 // How many digits a number has.
+// Kept, and `put_digits`: std's Display of a number promises no bytes, and the writer of PGM files promises `decimal`; it has no heap.
 pub fn digit_count(n: u32) -> usize
     ensures { result ≡ length (decimal n) }
 {
@@ -37,6 +38,7 @@ fn put_digits(n: u32, buffer: &mut [u8], end: usize)
     }
 }
 
+// Kept: a buffer and a place in it, so that a number that has no room is told here and not by each caller.
 // Writes a number in a buffer from a place on, and answers how many digits it has; `None` where it has no room there.
 pub fn put_decimal(n: u32, buffer: &mut [u8], at: usize) -> Option<usize>
     ensures value { result ≡ cond (has_room at (decimal n) buffer.old) (Some (length (decimal n))) None }

@@ -1,4 +1,5 @@
 // The pyramid and the bale file for programs in C or Rust: numbers and slices alone. include/lepsarvu.h declares each function.
+// Kept: numbers for refusals, and the settings and what is handed out one by one: the C interface.
 #![tactic(auto)]
 
 ghost use Rattle.std.specs.Prelude.{◌≡◌, length};

@@ -1,5 +1,6 @@
 // The functions of the crate lepsarvu as a static library: each export calls the function of its name and has its clauses. include/lepsarvu.h
 // declares them.
+// Kept: numbers for refusals, and the settings and what is handed out one by one: the C interface.
 #![tactic(auto)]
 
 ghost use Rattle.std.specs.Prelude.{◌≡◌, length};

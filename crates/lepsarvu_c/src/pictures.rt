@@ -1,4 +1,5 @@
 // PGM pictures: the exports of `lepsarvu::pictures`.
+// Kept: numbers for refusals, and the settings and what is handed out one by one: the C interface.
 ghost use Rattle.std.specs.Prelude.{◌≡◌};
 ghost use Rattle.pyramid.specs.Definitions.Calls.{leaves};
 ghost use Rattle.pgm.specs.Definitions.Calls.{check_pgm, read_pgm, size_answer, write_pgm};

@@ -1,4 +1,5 @@
 // What the header of a file says (document 02, P2).
+// Kept: a file and a place in it, as the definitions have them, past its end too.
 ghost use Rattle.std.specs.Prelude.{◌≡◌, ◌≤◌, length};
 ghost use Rattle.pgm.specs.Definitions.Header.{is_space, digits_place};
 ghost use Rattle.pgm.specs.Inner.Found.{passed, inside_after, field_at, header_in};

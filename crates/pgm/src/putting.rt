@@ -5,6 +5,8 @@ ghost use Rattle.decimals.specs.Definitions.Text.{decimal};
 ghost use Rattle.pgm.specs.Definitions.Files.{number_then, header_of, pgm_of, pgm_length};
 ghost use Rattle.pgm.specs.Definitions.Calls.{write_refusal};
 
+// Kept beside bale's: one call of `copy_from_slice` with its contract; a buffer and a place in it, since a part's place is where the one
+// before it ends.
 // Bytes from a place on.
 fn put(bytes: &[u8], file: &mut [u8], at: usize)
     requires { at + length bytes.now ≤ length file.old }

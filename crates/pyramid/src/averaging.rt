@@ -1,4 +1,6 @@
 // REDUCE (document 01, "Pyramid steps"): down the columns into a row of sums, then along that row, with one rounding at the end.
+// Kept: `Small` in clauses, here and in expanding.rt and copying.rt: the bound differs from step to step (4,096; 524,288; 8,388,608), and
+// what is small is a slice that was just written. Five and three values next to one another are the taps.
 ghost use Rattle.std.specs.Prelude.{◌≡◌, ◌+◌, ◌-◌, ◌*◌, ◌/◌, ◌%◌, ◌≤◌, ◌<◌, pos, ◌+ℤ◌, ◌*ℤ◌, length, get_or};
 ghost use Rattle.mathematics.specs.Definitions.Sums.{sum};
 ghost use Rattle.mathematics.specs.Definitions.Tables.{tabulate};
@@ -74,6 +76,7 @@ fn reduce_along(sums: &[i32], weights: Weights, row: &mut [i32])
     row[end] = reduce_node(sums, last - 2, last - 1, last, last - 1, last - 2, weights);
 }
 
+// Kept: the work buffer with the level's place and sizes, since the level is read and the next written in the same buffer.
 // The next level, right before the level that starts at `from`.
 pub fn reduce_level(work: &mut [i32], from: usize, columns: usize, rows: usize, weights: Weights)
     requires { Reducible from columns rows work.old }

@@ -17,15 +17,15 @@ fn magnify(kernel: u16, distance: u16) -> u16
 }
 
 // The bound of each level in its slot.
-pub fn bound_slots(s: LawfulSettings) -> [u16; 7]
-    ensures { result ≡ bound_slots s.shape.settings }
+pub fn bound_slots(lawful: LawfulSettings) -> [u16; 7]
+    ensures { result ≡ bound_slots lawful.shape.settings }
 {
-    let top = usize::from(s.shape.settings.depth);
+    let top = usize::from(lawful.shape.settings.depth);
     let mut out: [u16; 7] = [0; 7];
-    let mut bound = s.shape.settings.bins[top] / 2;
+    let mut bound = lawful.shape.settings.bins[top] / 2;
     out[top] = bound;
     for l in (0..top).rev() {
-        bound = magnify(s.shape.settings.kernel, bound) + s.shape.settings.bins[l] / 2;
+        bound = magnify(lawful.shape.settings.kernel, bound) + lawful.shape.settings.bins[l] / 2;
         out[l] = bound;
     }
     out

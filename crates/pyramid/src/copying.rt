@@ -10,6 +10,7 @@ ghost use Rattle.pyramid.specs.Definitions.Refusals.{index_ok};
 
 use crate::{IndexRange, Settings, ranging};
 
+// Kept: the work buffer and a place in it, since what stands before the picture's place is kept.
 // The pixels as numbers, from `at` on.
 pub fn load(picture: &[u8], work: &mut [i32], at: usize)
     requires { at + length picture.now ≤ length work.old }

@@ -14,6 +14,7 @@ fn last_at(side: u16, level: u16) -> usize
 }
 
 impl Shape {
+    // Kept, and `rows_at`: the two names of the papers, each one call of `last_at`.
     pub(crate) fn columns_at(self, level: u16) -> usize
         requires { level ≤ self.settings.depth }
         ensures { (result ≡ columns_at self.settings level) × (2 ≤ result) × (result ≤ 129) }

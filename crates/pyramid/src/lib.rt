@@ -136,6 +136,7 @@ fn accepted(
     Ok(lawful)
 }
 
+// Kept: the three buffers one by one, as in the exported functions: a coding writes two of them, a rebuilding two others.
 // Codes a picture: its indices in the level buffer, its averages in the work buffer.
 // Refused: 1, 13, 14, 15, 2, 3, 5, 6, 7.
 pub fn coding(
@@ -155,15 +156,15 @@ pub fn coding(
     Ok(())
 }
 
-fn code(s: LawfulSettings, picture: &[u8], levels: &mut [i16], work: &mut [i32])
-    requires { Sized s.shape.settings (length picture.now) (length levels.old) (length work.old) }
-    ensures levels_after { levels.new ≡ all_levels s.shape.settings (index s.shape.settings (pixels s.shape.settings.columns picture.now)) }
-    ensures work_after { work.new ≡
-        in_work s.shape.settings (average s.shape.settings (pixels s.shape.settings.columns picture.now)) work.old }
+fn code(lawful: LawfulSettings, picture: &[u8], levels: &mut [i16], work: &mut [i32])
+    requires { let s = lawful.shape.settings in Sized s (length picture.now) (length levels.old) (length work.old) }
+    ensures levels_after { let s = lawful.shape.settings in levels.new ≡ all_levels s (index s (pixels s.columns picture.now)) }
+    ensures work_after { let s = lawful.shape.settings in work.new ≡
+        in_work s (average s (pixels s.columns picture.now)) work.old }
 {
-    copying::load(picture, work, s.shape.start_of(0));
-    layering::average_levels(s, work);
-    layering::index_levels(s, work, levels);
+    copying::load(picture, work, lawful.shape.start_of(0));
+    layering::average_levels(lawful, work);
+    layering::index_levels(lawful, work, levels);
 }
 
 // Rebuilds a picture from its level buffer: the unclamped values in the work buffer, the clamped ones in the picture.
@@ -188,17 +189,17 @@ pub fn rebuilding(
     Ok(())
 }
 
-fn rebuild(s: LawfulSettings, levels: &[i16], picture: &mut [u8], work: &mut [i32])
-    requires sized { Sized s.shape.settings (length picture.old) (length levels.now) (length work.old) }
-    requires t { T (values_ok s.shape.settings levels.now) }
-    ensures picture_after { picture.new ≡
-        raster s.shape.settings.columns s.shape.settings.rows
-        (λ i j. clamp s.shape.settings (rebuilt s.shape.settings (read_levels s.shape.settings levels.now) 0 i j)) }
-    ensures work_after { work.new ≡
-        in_work s.shape.settings (rebuilt s.shape.settings (read_levels s.shape.settings levels.now)) work.old }
+fn rebuild(lawful: LawfulSettings, levels: &[i16], picture: &mut [u8], work: &mut [i32])
+    requires sized { let s = lawful.shape.settings in Sized s (length picture.old) (length levels.now) (length work.old) }
+    requires t { T (values_ok lawful.shape.settings levels.now) }
+    ensures picture_after { let s = lawful.shape.settings in picture.new ≡
+        raster s.columns s.rows
+        (λ i j. clamp s (rebuilt s (read_levels s levels.now) 0 i j)) }
+    ensures work_after { let s = lawful.shape.settings in work.new ≡
+        in_work s (rebuilt s (read_levels s levels.now)) work.old }
 {
-    layering::value_levels(s, levels, work);
-    let from = s.shape.start_of(0);
-    let to = s.shape.total();
-    copying::clamp_all(s.shape.settings, &work[from..to], picture);
+    layering::value_levels(lawful, levels, work);
+    let from = lawful.shape.start_of(0);
+    let to = lawful.shape.total();
+    copying::clamp_all(lawful.shape.settings, &work[from..to], picture);
 }

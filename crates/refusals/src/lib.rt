@@ -36,6 +36,7 @@ impl From<Refusal> for u16 {
     }
 }
 
+// Kept: a number for a refusal, since the exported functions answer it (C interface).
 // The number of what a call answers, for callers that know numbers alone: 0 where the call is accepted.
 #[tactic(auto, unfolding(crate::specs::Definitions::Outcomes::answer_number))]
 pub fn answer_number<T: Copy>(answer: Result<T, Refusal>) -> u16

@@ -33,32 +33,32 @@ module _ (s : LawfulSettings) (picture : List ℕ) (levels work : List ℤ) (siz
   averaged_is l m = (rw l at m) ∙ averages_placed given bytes
 
 pub load-requires : goal.load-requires
-load-requires c = omega (arith, picture_nodes c.args.s.shape.settings c.args.s.lawful, c.start_of.ensures.0, c.requires.picture_is, c.requires.work_least)
+load-requires c = omega (arith, picture_nodes c.args.lawful.shape.settings c.args.lawful.lawful, c.start_of.ensures.0, c.requires.picture_is, c.requires.work_least)
 
 pub average_levels-requires : goal.average_levels-requires
 average_levels-requires c =
     let b : Bytes c.args.picture.now = λ p. (c.type_inv.picture p).fits in
-    let l = loaded_is c.args.s c.args.picture.now c.args.levels.now c.args.work.now c.requires b _ c.start_of.ensures.0 c.load.ensures in
+    let l = loaded_is c.args.lawful c.args.picture.now c.args.levels.now c.args.work.now c.requires b _ c.start_of.ensures.0 c.load.ensures in
     record {
       s_in_bounds = omega (arith, c.load.auto.work, c.requires.work_least);
-      coding_ranges = rw l (loaded_ranges (given c.args.s c.args.picture.now c.args.levels.now c.args.work.now c.requires b) b);
+      coding_ranges = rw l (loaded_ranges (given c.args.lawful c.args.picture.now c.args.levels.now c.args.work.now c.requires b) b);
     }
 
 pub index_levels-requires : goal.index_levels-requires
 index_levels-requires c =
     let b : Bytes c.args.picture.now = λ p. (c.type_inv.picture p).fits in
-    let l = loaded_is c.args.s c.args.picture.now c.args.levels.now c.args.work.now c.requires b _ c.start_of.ensures.0 c.load.ensures in
-    let a = averaged_is c.args.s c.args.picture.now c.args.levels.now c.args.work.now c.requires b l c.average_levels.ensures in
-    rw a (averages_hold (given c.args.s c.args.picture.now c.args.levels.now c.args.work.now c.requires b) b)
+    let l = loaded_is c.args.lawful c.args.picture.now c.args.levels.now c.args.work.now c.requires b _ c.start_of.ensures.0 c.load.ensures in
+    let a = averaged_is c.args.lawful c.args.picture.now c.args.levels.now c.args.work.now c.requires b l c.average_levels.ensures in
+    rw a (averages_hold (given c.args.lawful c.args.picture.now c.args.levels.now c.args.work.now c.requires b) b)
 
 pub returns : goal.returns
 returns c =
     let b : Bytes c.args.picture.now = λ p. (c.type_inv.picture p).fits in
-    let l = loaded_is c.args.s c.args.picture.now c.args.levels.now c.args.work.now c.requires b _ c.start_of.ensures.0 c.load.ensures in
-    let a = averaged_is c.args.s c.args.picture.now c.args.levels.now c.args.work.now c.requires b l c.average_levels.ensures in
+    let l = loaded_is c.args.lawful c.args.picture.now c.args.levels.now c.args.work.now c.requires b _ c.start_of.ensures.0 c.load.ensures in
+    let a = averaged_is c.args.lawful c.args.picture.now c.args.levels.now c.args.work.now c.requires b l c.average_levels.ensures in
     record {
       levels_after =
           (rw a at c.index_levels.ensures)
-          ∙ indices_placed (given c.args.s c.args.picture.now c.args.levels.now c.args.work.now c.requires b) b;
+          ∙ indices_placed (given c.args.lawful c.args.picture.now c.args.levels.now c.args.work.now c.requires b) b;
       work_after = a;
     }

@@ -15,30 +15,30 @@ pub value_levels-requires : goal.value_levels-requires
 value_levels-requires c =
     record {
       levels_len = (c.requires.sized.levels_is, c.requires.sized.work_least);
-      rebuilding_ranges = rebuilding_ranges c.args.s.shape.settings c.args.s.lawful c.args.levels.now c.requires.t;
+      rebuilding_ranges = rebuilding_ranges c.args.lawful.shape.settings c.args.lawful.lawful c.args.levels.now c.requires.t;
     }
 
 pub slice_bounds-clamp_all-count : goal.slice_bounds-clamp_all-count
-slice_bounds-clamp_all-count c = omega (arith, picture_nodes c.args.s.shape.settings c.args.s.lawful, c.total-to.ensures.0, c.start_of-from.ensures.0)
+slice_bounds-clamp_all-count c = omega (arith, picture_nodes c.args.lawful.shape.settings c.args.lawful.lawful, c.total-to.ensures.0, c.start_of-from.ensures.0)
 
 pub slice_bounds-clamp_all-start : goal.slice_bounds-clamp_all-start
-slice_bounds-clamp_all-start c = omega (arith, picture_nodes c.args.s.shape.settings c.args.s.lawful, c.total-to.ensures.0, c.start_of-from.ensures.0)
+slice_bounds-clamp_all-start c = omega (arith, picture_nodes c.args.lawful.shape.settings c.args.lawful.lawful, c.total-to.ensures.0, c.start_of-from.ensures.0)
 
 pub clamp_all-requires : goal.clamp_all-requires
 clamp_all-requires c =
     rw (c.total-to.ensures.0, c.start_of-from.ensures.0)
-    (picture_length c.args.s.shape.settings c.args.s.lawful c.value_levels.new.work (omega (arith, c.value_levels.auto.work, c.requires.sized.work_least))
+    (picture_length c.args.lawful.shape.settings c.args.lawful.lawful c.value_levels.new.work (omega (arith, c.value_levels.auto.work, c.requires.sized.work_least))
     ∙ sym c.requires.sized.picture_is)
 
 pub returns : goal.returns
 returns c =
-    let s = c.args.s.shape.settings in
+    let s = c.args.lawful.shape.settings in
     let values : ℕ → Level = rebuilt s (read_levels s c.args.levels.now) in
     let worked : c.value_levels.new.work ≡ in_work s values c.args.work.now = c.value_levels.ensures ∙ front_all s values c.args.work.now in
     record {
       picture_after =
           (rw (c.total-to.ensures.0, c.start_of-from.ensures.0) at c.clamp_all.ensures)
-          ∙ picture_clamped s c.args.s.lawful values c.args.work.now c.value_levels.new.work worked
+          ∙ picture_clamped s c.args.lawful.lawful values c.args.work.now c.value_levels.new.work worked
           (omega (arith, c.value_levels.auto.work, c.requires.sized.work_least));
       work_after = worked;
     }

@@ -4,7 +4,7 @@ use Rattle.pyramid.proofs.BoundSlots.{filled_start, filled_next, filled_end}
 use Rattle.pyramid.proofs.bounding.bound_slots.Goals as goal
 
 pub loop-l-init : goal.loop-l-init
-loop-l-init c = rw c.from-top.ensures (filled_start c.args.s.lawful)
+loop-l-init c = rw c.from-top.ensures (filled_start c.args.lawful.lawful)
 
 pub overflow_add-bound : goal.overflow_add-bound
 overflow_add-bound c = let k = filled_next c.loop-l.invariant c.loop-l-test.true in omega arith

@@ -21,36 +21,36 @@ module _ (n : In-loop-j) where
   abbrev at : ℕ
   at = n.start_of-from.result + n.loop-j.j * n.columns_at-columns.result
 
-  turn : n.loop-j.j < rows_at n.args.s.shape.settings n.args.l
+  turn : n.loop-j.j < rows_at n.args.lawful.shape.settings n.args.l
   turn = omega (arith, n.loop-j-test.true, n.rows_at-rows.ensures.0)
 
-  across : n.columns_at-columns.result ≡ columns_at n.args.s.shape.settings n.args.l
+  across : n.columns_at-columns.result ≡ columns_at n.args.lawful.shape.settings n.args.l
   across = n.columns_at-columns.ensures.0
 
-  place : at ≡ start n.args.s.shape.settings n.args.l + n.loop-j.j * columns_at n.args.s.shape.settings n.args.l
+  place : at ≡ start n.args.lawful.shape.settings n.args.l + n.loop-j.j * columns_at n.args.lawful.shape.settings n.args.l
   place = rw (n.start_of-from.ensures.0, across)
 
   -- the next row lies inside
-  room : at + n.columns_at-columns.result ≤ total n.args.s.shape.settings
-  room = omega (arith, across, place, row_room n.args.s.shape.settings n.args.l n.loop-j.j n.requires.deep turn)
+  room : at + n.columns_at-columns.result ≤ total n.args.lawful.shape.settings
+  room = omega (arith, across, place, row_room n.args.lawful.shape.settings n.args.l n.loop-j.j n.requires.deep turn)
 
-  averages : part at (at + n.columns_at-columns.result) n.args.work.now ≡ row_of n.args.s.shape.settings n.args.l n.loop-j.j n.args.work.now
-  averages = given_row n.args.s.shape.settings n.args.l n.loop-j.j place across n.args.work.now
+  averages : part at (at + n.columns_at-columns.result) n.args.work.now ≡ row_of n.args.lawful.shape.settings n.args.l n.loop-j.j n.args.work.now
+  averages = given_row n.args.lawful.shape.settings n.args.l n.loop-j.j place across n.args.work.now
 
-  long : length (part at (at + n.columns_at-columns.result) n.args.work.now) ≡ columns_at n.args.s.shape.settings n.args.l
+  long : length (part at (at + n.columns_at-columns.result) n.args.work.now) ≡ columns_at n.args.lawful.shape.settings n.args.l
   long = ap length averages ∙ length_averages n.requires turn
 
   near : at + n.columns_at-columns.result ≤ 22359
-  near = omega (arith, room, total_most n.args.s.shape.settings n.args.s.lawful.shaped)
+  near = omega (arith, room, total_most n.args.lawful.shape.settings n.args.lawful.lawful.shaped)
 
   -- the row that is written
   written : length (part at (at + n.columns_at-columns.result) n.loop-j.levels) ≡ n.columns_at-columns.result
   written = part_long at n.columns_at-columns.result n.loop-j.levels (omega (arith, room, n.requires.filled, n.loop-j.invariant.long))
 
   -- once the row is predicted
-  made_small : {made : List ℤ} → made ≡ tabulate (columns_at n.args.s.shape.settings n.args.l) (λ i. predicted n.args.s.shape.settings (n.args.s.shape.settings.depth - n.args.l) n.args.l (read_levels n.args.s.shape.settings n.args.work.now) i n.loop-j.j)
+  made_small : {made : List ℤ} → made ≡ tabulate (columns_at n.args.lawful.shape.settings n.args.l) (λ i. predicted n.args.lawful.shape.settings (n.args.lawful.shape.settings.depth - n.args.l) n.args.l (read_levels n.args.lawful.shape.settings n.args.work.now) i n.loop-j.j)
       → Small 8388608 made
-  made_small = row_small n.args.s.shape.settings n.args.s.lawful n.args.l n.requires.deep (read_levels n.args.s.shape.settings n.args.work.now) (above_small n.requires).small n.loop-j.j turn
+  made_small = row_small n.args.lawful.shape.settings n.args.lawful.lawful n.args.l n.requires.deep (read_levels n.args.lawful.shape.settings n.args.work.now) (above_small n.requires).small n.loop-j.j turn
 
 pub loop-j-init : goal.loop-j-init
 loop-j-init c = rendering_start _ _ _ _ _
@@ -76,7 +76,7 @@ index_row-requires-clause-small_2 c = made_small (goal.at.index_row-requires-cla
 pub index_row-requires-clause-indices_within : goal.index_row-requires-clause-indices_within
 index_row-requires-clause-indices_within c =
     let n = (goal.at.index_row-requires-clause-indices_within c).In-loop-j in
-    subst (λ (xs : List ℤ). IndicesWithin xs c.predict_row.new.row (bin n.args.s.shape.settings n.args.l)) (sym (averages n))
+    subst (λ (xs : List ℤ). IndicesWithin xs c.predict_row.new.row (bin n.args.lawful.shape.settings n.args.l)) (sym (averages n))
     (indices_within n.requires (turn n) c.predict_row.ensures)
 
 pub loop-j-preserved : goal.loop-j-preserved

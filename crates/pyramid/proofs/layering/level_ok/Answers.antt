@@ -12,8 +12,8 @@ module _ (c : goal.After-columns_at) where
   inside =
       omega (
         arith,
-        level_end c.args.s.shape.settings c.args.l c.start_of-at.ensures.0 c.rows_at.ensures.0 c.columns_at.ensures.0,
-        level_inside c.args.s.shape.settings c.args.l c.requires.0,
+        level_end c.args.lawful.shape.settings c.args.l c.start_of-at.ensures.0 c.rows_at.ensures.0 c.columns_at.ensures.0,
+        level_inside c.args.lawful.shape.settings c.args.l c.requires.0,
       )
 
 pub overflow_mul-to : goal.overflow_mul-to
@@ -28,6 +28,6 @@ slice_bounds-values_within-end c = inside c
 pub returns : goal.returns
 returns c =
     c.values_within.ensures
-    ∙ part_values c.args.s.shape.settings c.args.levels.now c.args.l
-    (given_part c.args.s.shape.settings c.args.l c.start_of-at.ensures.0 c.rows_at.ensures.0 c.columns_at.ensures.0 c.args.levels.now c.requires.0
+    ∙ part_values c.args.lawful.shape.settings c.args.levels.now c.args.l
+    (given_part c.args.lawful.shape.settings c.args.l c.start_of-at.ensures.0 c.rows_at.ensures.0 c.columns_at.ensures.0 c.args.levels.now c.requires.0
     (omega arith))

@@ -21,29 +21,29 @@ module _ (n : In-loop-j) where
   abbrev at : ℕ
   at = n.start_of-from.result + n.loop-j.j * n.columns_at-columns.result
 
-  turn : n.loop-j.j < rows_at n.args.s.shape.settings n.args.l
+  turn : n.loop-j.j < rows_at n.args.lawful.shape.settings n.args.l
   turn = omega (arith, n.loop-j-test.true, n.rows_at-rows.ensures.0)
 
-  across : n.columns_at-columns.result ≡ columns_at n.args.s.shape.settings n.args.l
+  across : n.columns_at-columns.result ≡ columns_at n.args.lawful.shape.settings n.args.l
   across = n.columns_at-columns.ensures.0
 
-  place : at ≡ start n.args.s.shape.settings n.args.l + n.loop-j.j * columns_at n.args.s.shape.settings n.args.l
+  place : at ≡ start n.args.lawful.shape.settings n.args.l + n.loop-j.j * columns_at n.args.lawful.shape.settings n.args.l
   place = rw (n.start_of-from.ensures.0, across)
 
   -- the next row lies inside
-  room : at + n.columns_at-columns.result ≤ total n.args.s.shape.settings
-  room = omega (arith, across, place, row_room n.args.s.shape.settings n.args.l n.loop-j.j n.requires.deep turn)
+  room : at + n.columns_at-columns.result ≤ total n.args.lawful.shape.settings
+  room = omega (arith, across, place, row_room n.args.lawful.shape.settings n.args.l n.loop-j.j n.requires.deep turn)
 
-  indices : part at (at + n.columns_at-columns.result) n.args.levels.now ≡ row_of n.args.s.shape.settings n.args.l n.loop-j.j n.args.levels.now
-  indices = given_row n.args.s.shape.settings n.args.l n.loop-j.j place across n.args.levels.now
+  indices : part at (at + n.columns_at-columns.result) n.args.levels.now ≡ row_of n.args.lawful.shape.settings n.args.l n.loop-j.j n.args.levels.now
+  indices = given_row n.args.lawful.shape.settings n.args.l n.loop-j.j place across n.args.levels.now
 
-  long : length (part at (at + n.columns_at-columns.result) n.args.levels.now) ≡ columns_at n.args.s.shape.settings n.args.l
+  long : length (part at (at + n.columns_at-columns.result) n.args.levels.now) ≡ columns_at n.args.lawful.shape.settings n.args.l
   long = ap length indices ∙ length_indices n.requires turn
 
   near : at + n.columns_at-columns.result ≤ 22359
-  near = omega (arith, room, total_most n.args.s.shape.settings n.args.s.lawful.shaped)
+  near = omega (arith, room, total_most n.args.lawful.shape.settings n.args.lawful.lawful.shaped)
 
-  above : LevelSmall n.args.s.shape.settings (suc n.args.l) 524288 n.loop-j.work
+  above : LevelSmall n.args.lawful.shape.settings (suc n.args.l) 524288 n.loop-j.work
   above = above_small n.requires n.loop-j.invariant
 
   -- the row that is written
@@ -51,9 +51,9 @@ module _ (n : In-loop-j) where
   written = part_long at n.columns_at-columns.result n.loop-j.work (omega (arith, room, n.requires.worked, n.loop-j.invariant.long))
 
   -- once the row is predicted
-  made_small : {made : List ℤ} → made ≡ tabulate (columns_at n.args.s.shape.settings n.args.l) (λ i. predicted n.args.s.shape.settings (n.args.s.shape.settings.depth - n.args.l) n.args.l (read_levels n.args.s.shape.settings n.loop-j.work) i n.loop-j.j)
+  made_small : {made : List ℤ} → made ≡ tabulate (columns_at n.args.lawful.shape.settings n.args.l) (λ i. predicted n.args.lawful.shape.settings (n.args.lawful.shape.settings.depth - n.args.l) n.args.l (read_levels n.args.lawful.shape.settings n.loop-j.work) i n.loop-j.j)
       → Small 8388608 made
-  made_small = row_small n.args.s.shape.settings n.args.s.lawful n.args.l n.requires.deep (read_levels n.args.s.shape.settings n.loop-j.work) above.small n.loop-j.j turn
+  made_small = row_small n.args.lawful.shape.settings n.args.lawful.lawful n.args.l n.requires.deep (read_levels n.args.lawful.shape.settings n.loop-j.work) above.small n.loop-j.j turn
 
 pub loop-j-init : goal.loop-j-init
 loop-j-init c = rendering_start _ _ _ _ _
@@ -72,12 +72,12 @@ value_row-requires-clause-small c = made_small (goal.at.value_row-requires-claus
 pub value_row-requires-clause-values_within : goal.value_row-requires-clause-values_within
 value_row-requires-clause-values_within c =
     let n = (goal.at.value_row-requires-clause-values_within c).In-loop-j in
-    subst (λ (xs : List ℤ). ValuesWithin xs (bin n.args.s.shape.settings n.args.l)) (sym (indices n)) (values_within n.requires (turn n))
+    subst (λ (xs : List ℤ). ValuesWithin xs (bin n.args.lawful.shape.settings n.args.l)) (sym (indices n)) (values_within n.requires (turn n))
 
 pub loop-j-preserved : goal.loop-j-preserved
 loop-j-preserved c =
     let n = (goal.at.loop-j-preserved c).In-loop-j in
-    values_next n.requires n.loop-j.invariant n.args.s.lawful (turn n) (place n) (indices n) c.predict_row.ensures (written n ∙ across n)
+    values_next n.requires n.loop-j.invariant n.args.lawful.lawful (turn n) (place n) (indices n) c.predict_row.ensures (written n ∙ across n)
     (lent_back _ _ _ _ n.loop-j.work _ c.value_row.ensures (omega (arith, written n)))
 
 pub returns : goal.returns

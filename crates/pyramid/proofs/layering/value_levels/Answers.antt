@@ -4,8 +4,8 @@ use Rattle.pyramid.proofs.ValueLevels.{Rebuildable, rebuilding-first, level_read
 use Rattle.pyramid.proofs.layering.value_levels.Goals as goal
 use Rattle.pyramid.proofs.layering.value_levels.Goals.{Start}
 
-given : (t : Start) → Rebuildable t.args.s.shape.settings t.args.levels.now t.args.work.now
-given t = record { law = t.args.s.lawful; filled = t.requires.levels_len.0; long = t.requires.levels_len.1; ranges = t.requires.rebuilding_ranges }
+given : (t : Start) → Rebuildable t.args.lawful.shape.settings t.args.levels.now t.args.work.now
+given t = record { law = t.args.lawful.lawful; filled = t.requires.levels_len.0; long = t.requires.levels_len.1; ranges = t.requires.rebuilding_ranges }
 
 pub loop-l-init : goal.loop-l-init
 loop-l-init c g = rebuilding-first g

@@ -9,4 +9,4 @@ use Rattle.pyramid.proofs.layering.values_ok.Given as goal
 
 abbrev pub invariant-loop-l : goal.invariant-loop-l
 invariant-loop-l l =
-    values_ok l.s.shape.settings l.levels ≡ all (λ v. leb (nat_abs v) limit) (stack l.s.shape.settings (λ l' i j. value_of l.s.shape.settings l' (read_levels l.s.shape.settings l.levels l' i j)) l.l)
+    values_ok l.lawful.shape.settings l.levels ≡ all (λ v. leb (nat_abs v) limit) (stack l.lawful.shape.settings (λ l' i j. value_of l.lawful.shape.settings l' (read_levels l.lawful.shape.settings l.levels l' i j)) l.l)
