@@ -67,18 +67,22 @@ def apart(parts, folders=('Inner', 'Checks')):
 
 
 def promises(crate):
-    """The contracts of the functions that another crate can call, each with its file's text."""
+    """The contracts of the functions and methods that another crate can call, each with its file's text."""
     source = ROOT / 'crates' / crate / 'src'
     if not (source / 'lib.rt').exists():
         return
     root = text_of(source / 'lib.rt')
-    passed_on = set(re.findall(r'pub use \w+::(\w+);', root))
+    passed_on = {name for names in re.findall(r'pub use \w+::\{?([\w, ]+)\}?;', root) for name in names.split(', ')}
     opened = set(re.findall(r'(?m)^pub mod (\w+);', root))
     for path in sorted(source.rglob('*.rt')):
         text = re.sub(r'//[^\n]*', '', text_of(path))
         for found in re.finditer(r'(?m)^pub (?:extern "C" )?fn (\w+)(.*?)^\{', text, re.S):
             if path.name == 'lib.rt' or path.stem in opened or found.group(1) in passed_on:
                 yield found.group(1), found.group(2), text
+        for block in re.finditer(r'(?m)^impl (\w+) \{(.*?)^\}', text, re.S):
+            if path.name == 'lib.rt' or path.stem in opened or block.group(1) in passed_on:
+                for found in re.finditer(r'(?m)^    pub fn (\w+)(.*?)^    \{', block.group(2), re.S):
+                    yield '%s::%s' % (block.group(1), found.group(1)), found.group(2), text
 
 
 def closure(start):

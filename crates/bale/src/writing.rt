@@ -1,7 +1,7 @@
 // What the writer answers before it writes: a file's size, and which rule is broken first (document 01, "Who can cause which refusal").
 ghost use Rattle.std.specs.Prelude.{◌≡◌};
 ghost use Rattle.refusals.specs.Definitions.Outcomes.{outcome};
-ghost use Rattle.pyramid.specs.Inner.Shapes.{shape_settings};
+ghost use Rattle.pyramid.specs.Definitions.Shapes.{shape_settings};
 ghost use Rattle.bale.specs.Definitions.Files.{file_length};
 ghost use Rattle.bale.specs.Definitions.Calls.{write_refusal};
 

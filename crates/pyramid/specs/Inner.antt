@@ -3,4 +3,3 @@ pub mod Accepted
 pub mod Ranges
 pub mod Rows
 pub mod Layers
-pub mod Shapes

@@ -10,7 +10,7 @@ ghost use Rattle.pyramid.specs.Definitions.Buffers.{raster, pixels, all_levels, 
 ghost use Rattle.pyramid.specs.Definitions.Refusals.{first, settings_refusal, buffers_refusal, values_ok, levels_refusal};
 ghost use Rattle.pyramid.specs.Definitions.Calls.{in_work, coding, rebuilding};
 ghost use Rattle.pyramid.specs.Inner.Accepted.{Sized};
-ghost use Rattle.pyramid.specs.Inner.Shapes.{lawful_settings};
+ghost use Rattle.pyramid.specs.Definitions.Shapes.{lawful_settings};
 
 use refusals::Refusal;
 

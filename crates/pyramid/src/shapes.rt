@@ -18,7 +18,7 @@ pub struct Shape {
 }
 
 impl Shape {
-    ghost use Rattle.pyramid.specs.Inner.Shapes.{shape_settings, lawful_settings};
+    ghost use Rattle.pyramid.specs.Definitions.Shapes.{shape_settings, lawful_settings};
 
     // The settings, or the first rule that the shape breaks. The bins are not looked at.
     pub fn new(s: Settings) -> Result<Shape, Refusal>
@@ -78,7 +78,7 @@ pub struct LawfulSettings {
 }
 
 impl LawfulSettings {
-    ghost use Rattle.pyramid.specs.Inner.Shapes.{lawful_settings};
+    ghost use Rattle.pyramid.specs.Definitions.Shapes.{lawful_settings};
 
     // The settings, or the first rule that they break.
     pub fn new(s: Settings) -> Result<LawfulSettings, Refusal>

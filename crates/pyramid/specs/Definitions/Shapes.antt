@@ -1,4 +1,4 @@
--- The settings of what is known to be lawful. Assumes nothing.
+-- The settings of what is known to be lawful, or the refusal. Assumes nothing.
 use Rattle.std.specs.Prelude.{Result, Ok, Err}
 use Rattle.refusals.specs.declared.Refusal.{Refusal}
 use Rattle.pyramid.specs.declared.Settings.{Settings}
