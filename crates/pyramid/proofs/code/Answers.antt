@@ -51,6 +51,8 @@ index_levels-requires c =
     let a = averaged_is c.args.lawful c.args.picture.now c.args.levels.now c.args.work.now c.requires b l c.average_levels.ensures in
     rw a (averages_hold (given c.args.lawful c.args.picture.now c.args.levels.now c.args.work.now c.requires b) b)
 
+-- the indices are those of the averages that were made,
+-- and the averages lie where they were made
 pub returns : goal.returns
 returns c =
     let b : Bytes c.args.picture.now = λ p. (c.type_inv.picture p).fits in
