@@ -11,14 +11,13 @@ enum { SMALL_CASES = 5000, LARGE_CASES = 300, SMALL_SIDE = 9, LARGE_SIDE = 129, 
 enum { MOST_PGM_SIZE = 128, MOST_WRITE_PGM = 256, MOST_READ_PGM = 512, MOST_CHECK_PGM = 512 };
 
 /* The most that a call may take, and the least that the deepest one must have been seen to take: its arguments on the
- * stack, its return address, the rows of 129 32-bit numbers that stand below each other, or 40 bytes for each of seven
- * levels. */
+ * stack, its return address, and the rows of 129 32-bit numbers that stand below each other. */
 static const struct {
     size_t least, most;
 } LIMITS[FUNCTIONS] = {
     [CODING] = {40 + 8 + 2 * 516, 2304}, [REBUILDING] = {40 + 8 + 516, 1536}, [LEVEL_BOUNDS] = {8, 128},
     [DEEPEST_DEPTH] = {8, 128},          [TOTAL_NODES] = {8, 128},            [FILE_SIZE] = {8, 128},
-    [WRITE_FILE] = {64 + 8 + 280, 1280}, [READ_FILE] = {16 + 8 + 280, 1280},  [CHECK_FILE] = {8 + 280, 1280},
+    [WRITE_FILE] = {64 + 8, 1280},       [READ_FILE] = {16 + 8, 1280},        [CHECK_FILE] = {8, 1280},
     [PGM_SIZE] = {8, MOST_PGM_SIZE},     [WRITE_PGM] = {8 + 8, MOST_WRITE_PGM}, [READ_PGM] = {8, MOST_READ_PGM},
     [CHECK_PGM] = {8, MOST_CHECK_PGM},
 };
