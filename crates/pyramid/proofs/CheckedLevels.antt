@@ -1,9 +1,9 @@
 -- The values of a level buffer tested level by level, as whoever reads one level after another tests them: level N first, each index with
 -- the bin of its level. Assumes nothing.
 use mathlib.Core.Path.{◌≡◌, refl, sym, ap, ap₂, ◌∙◌}
-use mathlib.Core.Bool.{Bool, ◌&&◌}
+use mathlib.Core.Bool.{Bool, true, false, ◌&&◌}
 use mathlib.Core.List.{List}
-use Prim.Native.Nat.{ℕ, zero, suc, ◌+◌, ◌-◌, ◌≤◌}
+use Prim.Native.Nat.{ℕ, zero, suc, ◌+◌, ◌-◌, ◌≤◌, ◌<◌}
 use native.Mathlib.Omega.{arith}
 use lib.Dec.{leb}
 use lib.IntN.{ℤ, nat_abs}
@@ -33,6 +33,26 @@ module _ (s : Settings) (indices : List ℤ) where
       → checked s (suc l) indices ≡ (all (index_ok (bin s (suc l))) (take (nodes_at s (suc l)) indices) && checked s l (drop (nodes_at s (suc l)) indices))
   unfolding checked
   checked_suc l = refl
+
+-- the same one level after the other
+module _ (s : Settings) where
+  abbrev Passes : ℕ → List ℤ → Bool → Type 0
+  Passes l indices b = all (index_ok (bin s l)) (take (nodes_at s l) indices) ≡ b
+
+  pub checked_fails : (l : ℕ) (indices : List ℤ) → Passes l indices false → checked s l indices ≡ false
+  unfolding checked
+  checked_fails zero indices e = e
+  checked_fails (suc l) indices e = rw e
+
+  pub checked_passes : (l : ℕ) (indices : List ℤ) → 0 < l → Passes l indices true → checked s l indices ≡ checked s (l - 1) (drop (nodes_at s l) indices)
+  unfolding checked
+  checked_passes zero indices h e = absurd (omega (arith, h))
+  checked_passes (suc l) indices h e = let k : suc l - 1 ≡ l = omega arith in rw (e, k)
+
+  pub checked_last : (l : ℕ) (indices : List ℤ) → l ≤ 0 → Passes l indices true → checked s l indices ≡ true
+  unfolding checked
+  checked_last zero indices h e = e
+  checked_last (suc l) indices h e = absurd (omega (arith, h))
 
 module _ (s : Settings) (levels : List ℤ) where
   abbrev within : ℤ → Bool

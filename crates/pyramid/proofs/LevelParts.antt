@@ -7,8 +7,8 @@ use Prim.Native.Nat.{ℕ, zero, suc, ◌+◌, ◌-◌, ◌*◌, ◌≤◌, ◌<�
 use native.Mathlib.Nat.{not-suc-le-zero}
 use native.Mathlib.Omega.{arith}
 use lib.IntN.{ℤ, pos}
-use lib.ListN.{length, get_or}
-use lib.Seq.{ext_get_or}
+use lib.ListN.{length, get_or, take}
+use lib.Seq.{ext_get_or, get_or-take}
 use Rattle.mathematics.specs.Definitions.Tests.{all}
 use Rattle.mathematics.specs.Definitions.Tables.{tabulate}
 use Rattle.mathematics.specs.Inner.Splices.{part}
@@ -54,9 +54,10 @@ module _ (s : Settings) where
 
   -- ---- what the part holds
 
-  module _ (buffer : List ℤ) (l : ℕ) (h : l ≤ s.depth) (long : total s ≤ length buffer) where
-    pub length_level : length (part (start s l) (start s l + nodes_at s l) buffer) ≡ nodes_at s l
-    length_level = part_long (start s l) (nodes_at s l) buffer (omega (arith, level_inside l h))
+  -- of a buffer that reaches to the end of the level
+  module _ (buffer : List ℤ) (l : ℕ) (room : start s l + nodes_at s l ≤ length buffer) where
+    pub length_there : length (part (start s l) (start s l + nodes_at s l) buffer) ≡ nodes_at s l
+    length_there = part_long (start s l) (nodes_at s l) buffer room
 
     abbrev Same : ℕ → Type 0
     Same p = get_or (part (start s l) (start s l + nodes_at s l) buffer) p (pos 0) ≡ get_or (level_raster s (read_levels s buffer) l) p (pos 0)
@@ -67,18 +68,24 @@ module _ (s : Settings) where
         get_or-part (start s l) (start s l + nodes_at s l) buffer (pos 0) (j * columns_at s l + i) (omega (arith, inside hi hj))
         ∙ sym (raster_at (columns_at s l) (rows_at s l) (read_levels s buffer l) (pos 0) i j hi hj)
 
-    pub level_part : part (start s l) (start s l + nodes_at s l) buffer ≡ level_raster s (read_levels s buffer) l
-    level_part =
-        ext_get_or (pos 0) _ _ (length_level ∙ sym (length-raster (columns_at s l) (rows_at s l) (read_levels s buffer l)))
-        (λ p k. by_place (columns_at s l) (rows_at s l) Same (omega arith) node p (omega (arith, length_level)))
+    pub level_there : part (start s l) (start s l + nodes_at s l) buffer ≡ level_raster s (read_levels s buffer) l
+    level_there =
+        ext_get_or (pos 0) _ _ (length_there ∙ sym (length-raster (columns_at s l) (rows_at s l) (read_levels s buffer l)))
+        (λ p k. by_place (columns_at s l) (rows_at s l) Same (omega arith) node p (omega (arith, length_there)))
 
-  -- the same of a start, rows and columns that the code was given
-  module _ (l : ℕ) {at rows columns : ℕ} (place : at ≡ start s l) (along : rows ≡ rows_at s l) (across : columns ≡ columns_at s l) where
-    pub level_end : at + rows * columns ≡ start s l + nodes_at s l
-    level_end = rw (place, along, across)
+  pub level_room : (buffer : List ℤ) (l : ℕ) → l ≤ s.depth → total s ≤ length buffer → start s l + nodes_at s l ≤ length buffer
+  level_room buffer l h long = omega (arith, level_inside l h, long)
 
-    pub given_part : (buffer : List ℤ) → l ≤ s.depth → total s ≤ length buffer → part at (at + rows * columns) buffer ≡ level_raster s (read_levels s buffer) l
-    given_part buffer h long = rw (level_end, place) (level_part buffer l h long)
+  pub level_part : (buffer : List ℤ) (l : ℕ) → l ≤ s.depth → total s ≤ length buffer
+      → part (start s l) (start s l + nodes_at s l) buffer ≡ level_raster s (read_levels s buffer) l
+  level_part buffer l h long = level_there buffer l (level_room buffer l h long)
+
+  -- what stands before a level reads like the whole of the buffer
+  pub read_before : (buffer : List ℤ) (l i j : ℕ) → suc l ≤ s.depth → i < columns_at s (suc l) → j < rows_at s (suc l)
+      → read_levels s (take (start s l) buffer) (suc l) i j ≡ read_levels s buffer (suc l) i j
+  unfolding read_levels
+  read_before buffer l i j h hi hj =
+      get_or-take (start s l) buffer (start s (suc l) + (j * columns_at s (suc l) + i)) (pos 0) (omega (arith, start-below l h, inside {rows = rows_at s (suc l)} hi hj))
 
 -- ---- what a function makes of all nodes
 

@@ -1,15 +1,15 @@
 -- REDUCE and EXPAND from one level of a buffer to another. Assumes nothing.
-use mathlib.Core.Path.{◌≡◌, sym, subst}
+use mathlib.Core.Path.{◌≡◌, sym, subst, ◌∙◌}
 use mathlib.Core.List.{List}
 use Prim.Native.Nat.{ℕ, suc, ◌+◌, ◌-◌, ◌*◌, ◌/◌, ◌≤◌, ◌<◌}
 use native.Mathlib.Omega.{arith}
 use lib.IntN.{ℤ, pos}
 use lib.ListN.{length}
-use Rattle.mathematics.specs.Inner.Splices.{splice, part}
+use Rattle.mathematics.specs.Inner.Splices.{part}
 use Rattle.mathematics.proofs.Distance.{Near, near_same, same_near}
 use Rattle.pyramid.specs.declared.Settings.{Settings}
 use Rattle.pyramid.specs.Inner.Lawful.{Kernel, Lawful}
-use Rattle.pyramid.specs.Definitions.Sizes.{Level, last, columns_at, rows_at, nodes_at, total}
+use Rattle.pyramid.specs.Definitions.Sizes.{Level, last, columns_at, rows_at, nodes_at}
 use Rattle.pyramid.specs.Definitions.Steps.{reduce, expand}
 use Rattle.pyramid.specs.Definitions.Pyramid.{reduced, expanded}
 use Rattle.pyramid.specs.Definitions.Bound.{magnified}
@@ -22,7 +22,7 @@ use Rattle.pyramid.proofs.Sizes.{last-suc, last_most, last_least, last_even}
 use Rattle.pyramid.proofs.Steps.{near_reduce, near_expand}
 use Rattle.pyramid.proofs.Buffers.{raster_at, raster-same}
 use Rattle.pyramid.proofs.SmallBuffers.{small-raster}
-use Rattle.pyramid.proofs.LevelParts.{start-below, level_inside, length_level, level_part}
+use Rattle.pyramid.proofs.LevelParts.{length_there, level_there}
 
 -- ---- steps of levels that agree where the steps read
 
@@ -70,21 +70,21 @@ pub record Source (e columns rows : ℕ) (buffer : List ℤ) : Type 0 where
   pub filled : length buffer ≡ rows * columns
   pub small : Small e buffer
 
-module _ (s : Settings) (law : Lawful s) (buffer : List ℤ) (long : total s ≤ length buffer) where
+module _ (s : Settings) (law : Lawful s) (buffer : List ℤ) where
   -- a part of the buffer, read as a level
-  part-is : (l i j : ℕ) → l ≤ s.depth → i < columns_at s l → j < rows_at s l
+  part-is : (l i j : ℕ) → start s l + nodes_at s l ≤ length buffer → i < columns_at s l → j < rows_at s l
       → as_level (columns_at s l) (part (start s l) (start s l + nodes_at s l) buffer) i j ≡ read_levels s buffer l i j
   unfolding as_level
-  part-is l i j h hi hj = rw (level_part s buffer l h long) (raster_at (columns_at s l) (rows_at s l) (read_levels s buffer l) (pos 0) i j hi hj)
+  part-is l i j h hi hj = rw (level_there s buffer l h) (raster_at (columns_at s l) (rows_at s l) (read_levels s buffer l) (pos 0) i j hi hj)
 
-  part_small : (l e : ℕ) → l ≤ s.depth → LevelSmall s l e buffer → Small e (part (start s l) (start s l + nodes_at s l) buffer)
-  part_small l e h f =
-      subst (Small e) (sym (level_part s buffer l h long))
+  part_small : (l e : ℕ) → l ≤ s.depth → start s l + nodes_at s l ≤ length buffer → LevelSmall s l e buffer → Small e (part (start s l) (start s l + nodes_at s l) buffer)
+  part_small l e h room f =
+      subst (Small e) (sym (level_there s buffer l room))
       (small-raster (columns_at s l) (rows_at s l) (read_levels s buffer l) (omega arith) (λ i j hi hj. record { small = f.small h i j hi hj }))
 
   -- ---- REDUCE of level l
 
-  module _ (l : ℕ) (h : l < s.depth) where
+  module _ (l : ℕ) (h : l < s.depth) (room : start s l + nodes_at s l ≤ length buffer) where
     -- the size of the next level, as the code halves it
     half_wide : (columns_at s l - 1) / 2 + 1 ≡ columns_at s (suc l)
     half_wide = omega (arith, last-suc s.columns l)
@@ -95,45 +95,41 @@ module _ (s : Settings) (law : Lawful s) (buffer : List ℤ) (long : total s ≤
     next_nodes : halved_nodes (columns_at s l) (rows_at s l) ≡ nodes_at s (suc l)
     next_nodes = rw (half_wide, half_high)
 
-    pub reducible : LevelSmall s l limit buffer → Reducible (start s l) (columns_at s l) (rows_at s l) buffer
-    reducible f = record {
+    pub reducible : LevelSmall s l limit buffer → {nodes : ℕ} → nodes ≡ nodes_at s (suc l)
+        → Reducible (columns_at s l) (rows_at s l) (part (start s l) (start s l + nodes_at s l) buffer) nodes
+    reducible f e = record {
       wide = omega (arith, level_wide s law l h);
       high = omega (arith, level_high s law l h);
-      wide_most = omega (arith, last_most s.columns l, law.shaped.across.most);
-      high_most = omega (arith, last_most s.rows l, law.shaped.along.most);
       wide_even = omega (arith, last_even law.shaped.across l h);
       high_even = omega (arith, last_even law.shaped.along l h);
-      before = omega (arith, next_nodes, start-below s l h);
-      fits = omega (arith, level_inside s l (omega arith));
-      small = part_small l limit (omega arith) f;
+      above = e ∙ sym next_nodes;
+      small = part_small l limit (omega arith) room f;
     }
 
     abbrev read : Level
     read = as_level (columns_at s l) (part (start s l) (start s l + nodes_at s l) buffer)
 
-    pub reduce_placed : splice (start s l - halved_nodes (columns_at s l) (rows_at s l))
-        (raster ((columns_at s l - 1) / 2 + 1) ((rows_at s l - 1) / 2 + 1) (reduce s.kernel (columns_at s l - 1) (rows_at s l - 1) read)) buffer
-        ≡ splice (start s (suc l)) (level_raster s (λ _. reduced s l (read_levels s buffer l)) (suc l)) buffer
-    reduce_placed =
-        let a : start s l - halved_nodes (columns_at s l) (rows_at s l) ≡ start s (suc l) = omega (arith, next_nodes, start-below s l h) in
+    pub reduced_is : raster ((columns_at s l - 1) / 2 + 1) ((rows_at s l - 1) / 2 + 1) (reduce s.kernel (columns_at s l - 1) (rows_at s l - 1) read)
+        ≡ level_raster s (λ _. reduced s l (read_levels s buffer l)) (suc l)
+    reduced_is =
         let n : (columns_at s l - 1) / 2 + 1 ≡ columns_at s (suc l) = half_wide in
         let m : (rows_at s l - 1) / 2 + 1 ≡ rows_at s (suc l) = half_high in
         let zc : columns_at s l - 1 ≡ last s.columns l = omega arith in
         let zr : rows_at s l - 1 ≡ last s.rows l = omega arith in
         let e : raster (columns_at s (suc l)) (rows_at s (suc l)) (reduced s l read) ≡ level_raster s (λ _. reduced s l (read_levels s buffer l)) (suc l) =
         raster-same (columns_at s (suc l)) (rows_at s (suc l)) (reduced s l read) (reduced s l (read_levels s buffer l))
-        (reduced-same s law l h read (read_levels s buffer l) (λ i j. part-is l i j (omega arith))) in
+        (reduced-same s law l h read (read_levels s buffer l) (λ i j. part-is l i j room)) in
         cc
 
   -- ---- EXPAND of the level above l
 
-  module _ (l : ℕ) (h : suc l ≤ s.depth) where
+  module _ (l : ℕ) (h : suc l ≤ s.depth) (room : start s (suc l) + nodes_at s (suc l) ≤ length buffer) where
     pub expandable : (e : ℕ) → LevelSmall s (suc l) e buffer → Source e (columns_at s (suc l)) (rows_at s (suc l)) (part (start s (suc l)) (start s (suc l) + nodes_at s (suc l)) buffer)
     expandable e f = record {
       wide = (omega (arith, last_least law.shaped.across (suc l) h), omega (arith, last_most s.columns (suc l), law.shaped.across.most));
       high = (omega (arith, last_least law.shaped.along (suc l) h), omega (arith, last_most s.rows (suc l), law.shaped.along.most));
-      filled = length_level s buffer (suc l) h long;
-      small = part_small (suc l) e h f;
+      filled = length_there s buffer (suc l) room;
+      small = part_small (suc l) e h room f;
     }
 
     abbrev read_above : Level
@@ -152,5 +148,5 @@ module _ (s : Settings) (law : Lawful s) (buffer : List ℤ) (long : total s ≤
         let zc : columns_at s (suc l) - 1 ≡ last s.columns (suc l) = omega arith in
         let zr : rows_at s (suc l) - 1 ≡ last s.rows (suc l) = omega arith in
         let e : expanded s l read_above i j ≡ expanded s l (read_levels s buffer (suc l)) i j =
-        expanded-same s law l h read_above (read_levels s buffer (suc l)) (λ i j. part-is (suc l) i j h) i j hi hj in
+        expanded-same s law l h read_above (read_levels s buffer (suc l)) (λ i j. part-is (suc l) i j room) i j hi hj in
         cc

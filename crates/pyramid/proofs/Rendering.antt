@@ -42,6 +42,10 @@ module _ {A : Type 0} where
           is = rw (e, r.is, add-one) (rw long_rows at (splice_append at (raster columns j f) l (omega (arith, rows_room)) (tabulate columns (λ i. f i j))));
         }
 
+    -- the same where the raster is the buffer's beginning
+    pub rendering_row : {w' : List A} → at ≡ 0 → w' ≡ splice (j * columns) (tabulate columns (λ i. f i j)) w → j < rows → Rendering at columns rows f l w' (j + 1)
+    rendering_row z e h = let p : at + j * columns ≡ j * columns = omega (arith, z) in rendering_next (e ∙ rw p) h
+
     pub rendering_after : (f' t : ℕ) → at + rows * columns ≤ f' → part f' t w ≡ part f' t l
     rendering_after f' t k = rw r.is (part_after at (raster columns j f) l (omega (arith, rows_room)) f' t (omega (arith, rows_room)))
 

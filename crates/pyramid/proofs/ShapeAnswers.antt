@@ -14,7 +14,7 @@ use Rattle.pyramid.specs.Definitions.Calls.{leaves}
 use Rattle.pyramid.specs.Definitions.Refusals.{unless, first, shape_refusal, settings_refusal}
 use Rattle.pyramid.specs.Definitions.Answers.{LevelSizeAnswer, NodesAnswer, DeepestAnswer, size_of, level_size_answer, nodes_answer, shape_answer, deepest_answer}
 use Rattle.pyramid.proofs.Refusals.{leaves_new}
-use Rattle.pyramid.proofs.Sizes.{nodes_most}
+use Rattle.pyramid.proofs.Sizes.{nodes_small}
 
 pub shape_accepted : (s : Settings) → Shaped s → shape_refusal s ≡ 0
 unfolding shape_refusal size_ok side_ok depth_ok divides kernel_ok unless first
@@ -38,7 +38,7 @@ module _ (s : Settings) (level : ℕ) (shape : Shaped s) (h : level ≤ s.depth)
 
   pub level_nodes : (size : LevelSizeAnswer) → size ≡ level_size_answer s level
       → (size.rows * size.columns ≡ nodes_at s level) × (size.rows * size.columns ≤ 16641)
-  level_nodes size e = rw (e, level_size) (refl, nodes_most s shape level h)
+  level_nodes size e = rw (e, level_size) (refl, nodes_small s shape level)
 
 -- the nodes of any level, 0 above N
 pub record LevelNodes (s : Settings) (level : ℕ) (size : LevelSize) : Type 0 where

@@ -1,7 +1,7 @@
 -- Laws of the levels' sizes: halving, at least two columns and rows, at most the picture's, and T of at most 22,359. Assumes nothing.
 use mathlib.Core.Path.{◌≡◌, refl, sym, ap, ◌∙◌}
 use mathlib.Core.List.{[]}
-use Prim.Native.Nat.{ℕ, zero, suc, ◌+◌, ◌-◌, ◌/◌, ◌%◌, ◌^◌, ◌≤◌, ◌<◌}
+use Prim.Native.Nat.{ℕ, zero, suc, ◌+◌, ◌-◌, ◌*◌, ◌/◌, ◌%◌, ◌^◌, ◌≤◌, ◌<◌}
 use native.Mathlib.Nat.{div-one, div-le_self, div-div-eq-div-mul, pow-suc, le-div_iff_mul-le, one-le-pow, pow-le-pow_right, le_of_dvd, dvd_of_mod-eq-zero, add-zero, add-suc, le_refl, mul-le-mul, zero-div}
 use native.Mathlib.Omega.{arith}
 use lib.Pow.{mod-mod-pow, field}
@@ -27,6 +27,12 @@ count_zero side h = omega (arith, last-zero side)
 pub last_most : (side l : ℕ) → last side l ≤ side - 1
 unfolding last
 last_most side l = div-le_self (side - 1) (2 ^ l)
+
+-- a side of 16 bits has no column but the first from level 16 on
+pub last_far : (side d : ℕ) → side ≤ 65535 → last side (d + 16) ≡ 0
+unfolding last
+last_far side zero h = omega (arith, h)
+last_far side (suc d) h = let e : suc d + 16 ≡ suc (d + 16) = omega arith in ap (last side) e ∙ last-suc side (d + 16) ∙ rw (last_far side d h) (omega arith)
 
 -- a longer side has at least as many
 pub last_mono : (short long l : ℕ) → short ≤ long → last short l ≤ last long l
@@ -59,10 +65,10 @@ count_range {side} {depth} {l} h hl e =
 
 -- ---- the nodes of one level
 
-pub nodes_most : (s : Settings) → Shaped s → (l : ℕ) → l ≤ s.depth → nodes_at s l ≤ 16641
-nodes_most s shape l h =
-    let across : columns_at s l ≤ 129 = (count_range shape.across h refl).2 in
-    let along : rows_at s l ≤ 129 = (count_range shape.along h refl).2 in
+pub nodes_small : (s : Settings) → Shaped s → (l : ℕ) → nodes_at s l ≤ 16641
+nodes_small s shape l =
+    let across : columns_at s l ≤ 129 = omega (arith, last_most s.columns l, shape.across.most) in
+    let along : rows_at s l ≤ 129 = omega (arith, last_most s.rows l, shape.along.most) in
     mul-le-mul along across
 
 -- ---- the nodes of the levels together
@@ -113,6 +119,12 @@ unfolding largest
 nodes_to_most s shape n h =
     let most : nodes_to largest 6 ≤ 22359 = lit≤ (unfold nodes_to last in tt) in
     omega (arith, nodes_to_mono s n 6 h, nodes_of_size s largest shape.across.most shape.along.most 6)
+
+-- levels 0 to any level, past the depth too
+pub nodes_to_room : (s : Settings) → Shaped s → (n : ℕ) → nodes_to s n ≤ 16641 * suc n
+unfolding nodes_to
+nodes_to_room s shape zero = omega (arith, nodes_small s shape 0)
+nodes_to_room s shape (suc n) = omega (arith, nodes_small s shape (suc n), nodes_to_room s shape n)
 
 pub total_most : (s : Settings) → Shaped s → total s ≤ 22359
 total_most s shape = rw (total-is s) (nodes_to_most s shape s.depth shape.deep)

@@ -1,14 +1,13 @@
 -- Rebuilt values row by row and level by level, from the top down. Assumes nothing.
-use mathlib.Core.Path.{◌≡◌, sym, ap, ◌∙◌, subst}
+use mathlib.Core.Path.{◌≡◌, refl, ap, ◌∙◌, subst}
 use mathlib.Core.List.{List}
 use Prim.Native.Nat.{ℕ, zero, suc, ◌+◌, ◌-◌, ◌*◌, ◌≤◌, ◌<◌}
 use native.Mathlib.Omega.{arith}
 use lib.IntN.{ℤ, pos, ◌+ℤ◌, ◌*ℤ◌, +ℤ_idr}
-use lib.ListN.{length, get_or}
+use lib.ListN.{length, get_or, take}
 use Rattle.mathematics.specs.Inner.Splices.{splice}
 use Rattle.mathematics.specs.Definitions.Tables.{tabulate}
 use Rattle.mathematics.proofs.Tables.{tabulate-same, get_or-tabulate}
-use Rattle.mathematics.proofs.Splices.{get_or-part}
 use Rattle.pyramid.specs.declared.Settings.{Settings}
 use Rattle.pyramid.specs.Definitions.Settings.{bin}
 use Rattle.pyramid.specs.Inner.Lawful.{Lawful}
@@ -18,20 +17,20 @@ use Rattle.pyramid.specs.Definitions.Buffers.{level_raster, all_levels, start, r
 use Rattle.pyramid.specs.Inner.Ranges.{EachNode, RebuildingRanges}
 use Rattle.pyramid.specs.Inner.Rows.{ValuesWithin}
 use Rattle.pyramid.specs.Inner.Layers.{predicted, value_at, LevelSmall, ValueLevel}
-use Rattle.pyramid.proofs.Buffers.{inside, raster-same}
-use Rattle.pyramid.proofs.Rendering.{Rendering, rendering_next, rendering_before}
-use Rattle.pyramid.proofs.LevelParts.{start-below, start-next, level_inside}
+use Rattle.pyramid.proofs.Buffers.{raster-same}
+use Rattle.pyramid.proofs.Rendering.{Rendering, rendering_row}
+use Rattle.pyramid.proofs.LevelParts.{start-next, level_inside, read_before}
 use Rattle.pyramid.proofs.LevelPlaces.{topped, length_topped, topped_first, topped_next, read_topped, topped_last}
 use Rattle.pyramid.proofs.PredictedRows.{predicted-same, row_of, length_row, row_node}
 
--- ---- row by row: j rows of level l are there
+-- ---- row by row: j rows of level l are there, from the level's place on
 
-abbrev pub Values : Settings → ℕ → (levels w work : List ℤ) → ℕ → Type 0
-Values s l levels w work j = Rendering (start s l) (columns_at s l) (rows_at s l) (value_at s (read_levels s levels) (read_levels s w) l) w work j
+abbrev pub Values : Settings → ℕ → (levels w here₀ here : List ℤ) → ℕ → Type 0
+Values s l levels w here₀ here j = Rendering 0 (columns_at s l) (rows_at s l) (value_at s (read_levels s levels) (read_levels s w) l) here₀ here j
 
 module _ {s : Settings} {l : ℕ} {levels w : List ℤ} (v : ValueLevel s l levels w) where
-  room : start s l + nodes_at s l ≤ length w
-  room = omega (arith, v.worked, level_inside s l v.deep)
+  pub value_room : start s l + nodes_at s l ≤ length w
+  value_room = omega (arith, v.worked, level_inside s l v.deep)
 
   -- the indices of row j
   module _ {j : ℕ} (turn : j < rows_at s l) where
@@ -47,32 +46,28 @@ module _ {s : Settings} {l : ℕ} {levels w : List ℤ} (v : ValueLevel s l leve
       at = λ i h. let hi : i < columns_at s l = omega (arith, length_indices) in record { small = rw (index_node i hi) (v.values i j hi turn) };
     }
 
-  module _ {work : List ℤ} {j : ℕ} (r : Values s l levels w work j) where
-    -- the level above stays as it was
-    above_kept : suc l ≤ s.depth → EachNode s (suc l) (λ x y. read_levels s work (suc l) x y ≡ read_levels s w (suc l) x y)
-    unfolding read_levels
-    above_kept h x y hx hy =
-        let p : y * columns_at s (suc l) + x < start s l - start s (suc l) = omega (arith, start-below s l h, inside {rows = rows_at s (suc l)} hx hy) in
-        sym (get_or-part (start s (suc l)) (start s l) work (pos 0) (y * columns_at s (suc l) + x) p)
-        ∙ ap (λ (b : List ℤ). get_or b (y * columns_at s (suc l) + x) (pos 0)) (rendering_before r room (start s (suc l)) (start s l) (omega (arith, start-below s l h)) (omega arith))
-        ∙ get_or-part (start s (suc l)) (start s l) w (pos 0) (y * columns_at s (suc l) + x) p
+  -- the level above, as it is read from what stands before level l
+  module _ {before : List ℤ} (front : before ≡ take (start s l) w) where
+    above_kept : suc l ≤ s.depth → EachNode s (suc l) (λ i j. read_levels s before (suc l) i j ≡ read_levels s w (suc l) i j)
+    above_kept h i j hi hj = rw front (read_before s w l i j h hi hj)
 
-    pub above_small : LevelSmall s (suc l) 524288 work
+    pub above_small : LevelSmall s (suc l) 524288 before
     above_small = record { small = λ h x y hx hy. rw (above_kept h x y hx hy) (v.above.small h x y hx hy) }
 
     -- the next row, from its indices and its prediction
-    pub values_next : (law : Lawful s) → j < rows_at s l → {at n : ℕ} {indices made work' : List ℤ} → at ≡ start s l + j * columns_at s l → indices ≡ row_of s l j levels
-        → made ≡ tabulate (columns_at s l) (λ i. predicted s (s.depth - l) l (read_levels s work) i j)
-        → n ≡ columns_at s l → work' ≡ splice at (tabulate n (λ i. get_or indices i (pos 0) *ℤ pos (bin s l) +ℤ get_or made i (pos 0))) work → Values s l levels w work' (j + 1)
+    pub values_next : (law : Lawful s) → {here₀ here : List ℤ} {j : ℕ} → Values s l levels w here₀ here j → nodes_at s l ≤ length here₀ → j < rows_at s l
+        → {at n : ℕ} {indices made here' : List ℤ} → at ≡ j * columns_at s l → indices ≡ row_of s l j levels
+        → made ≡ tabulate (columns_at s l) (λ i. predicted s (s.depth - l) l (read_levels s before) i j)
+        → n ≡ columns_at s l → here' ≡ splice at (tabulate n (λ i. get_or indices i (pos 0) *ℤ pos (bin s l) +ℤ get_or made i (pos 0))) here → Values s l levels w here₀ here' (j + 1)
     unfolding value_at value_of
-    values_next law turn place e f width is =
-        rendering_next r room
+    values_next law {here = here} {j = j} r room turn place e f width is =
+        rendering_row r (omega (arith, room)) refl
         (is ∙ rw (place, e, f, width)
-        (ap (λ (xs : List ℤ). splice (start s l + j * columns_at s l) xs work)
+        (ap (λ (xs : List ℤ). splice (j * columns_at s l) xs here)
         (tabulate-same (columns_at s l) _ _ (λ i hi. rw (
           index_node turn i hi,
-          get_or-tabulate (columns_at s l) (λ i. predicted s (s.depth - l) l (read_levels s work) i j) (pos 0) i hi,
-          predicted-same s law l v.deep (read_levels s work) (read_levels s w) above_kept i j hi turn,
+          get_or-tabulate (columns_at s l) (λ i. predicted s (s.depth - l) l (read_levels s before) i j) (pos 0) i hi,
+          predicted-same s law l v.deep (read_levels s before) (read_levels s w) above_kept i j hi turn,
         )))))
         turn
 

@@ -9,7 +9,6 @@ pub mod Rebuilding
 pub mod Bound
 pub mod Buffers
 pub mod Refusals
-pub mod Shapes
 pub mod IndexRanges
 pub mod Calls
 pub mod Answers

@@ -4,11 +4,10 @@
 ghost use Rattle.std.specs.Prelude.{◌≡◌, ◌+◌, ◌-◌, ◌*◌, ◌/◌, ◌%◌, ◌≤◌, ◌<◌, pos, ◌+ℤ◌, ◌*ℤ◌, length, get_or};
 ghost use Rattle.mathematics.specs.Definitions.Sums.{sum};
 ghost use Rattle.mathematics.specs.Definitions.Tables.{tabulate};
-ghost use Rattle.mathematics.specs.Inner.Splices.{splice, part};
 ghost use Rattle.quantizer.specs.Definitions.Rounding.{round_div};
 ghost use Rattle.pyramid.specs.Definitions.Weights.{weight};
 ghost use Rattle.pyramid.specs.Definitions.Edge.{reflect};
-ghost use Rattle.pyramid.specs.Inner.Rows.{as_level, column_sum, Small, halved_nodes, Reducible};
+ghost use Rattle.pyramid.specs.Inner.Rows.{as_level, column_sum, Small, Reducible};
 ghost use Rattle.pyramid.specs.Definitions.Steps.{reduce};
 ghost use Rattle.pyramid.specs.Definitions.Buffers.{raster};
 
@@ -76,30 +75,19 @@ fn reduce_along(sums: &[i32], weights: Weights, row: &mut [i32])
     row[end] = reduce_node(sums, last - 2, last - 1, last, last - 1, last - 2, weights);
 }
 
-// Kept: the work buffer with the level's place and sizes, since the level is read and the next written in the same buffer.
-// The next level, right before the level that starts at `from`.
-pub fn reduce_level(work: &mut [i32], from: usize, columns: usize, rows: usize, weights: Weights)
-    requires { Reducible from columns rows work.old }
-    ensures { work.new ≡
-        splice (from - halved_nodes columns rows)
-        (raster ((columns - 1) / 2 + 1) ((rows - 1) / 2 + 1)
-        (reduce weights.kernel (columns - 1) (rows - 1)
-        (as_level columns (part from (from + rows * columns) work.old)))) work.old }
+// The next level above a level.
+pub fn reduce_level(level: Raster, weights: Weights, above: &mut [i32])
+    requires { Reducible level.columns level.rows level.values.now (length above.old) }
+    ensures { let e = level.entry in above.new ≡
+        raster ((e.columns - 1) / 2 + 1) ((e.rows - 1) / 2 + 1)
+        (reduce weights.kernel (e.columns - 1) (e.rows - 1) (as_level e.columns e.values.now)) }
 {
-    let n = (columns - 1) / 2 + 1;
-    let m = (rows - 1) / 2 + 1;
-    let start = from - m * n;
-    let to = from + rows * columns;
+    let n = (level.columns - 1) / 2 + 1;
+    let m = (level.rows - 1) / 2 + 1;
     let mut sums: [i32; 129] = [0; 129];
-    let sums = &mut sums[..columns];
+    let sums = &mut sums[..level.columns];
     for j in 0..m {
-        let level = Raster {
-            values: &work[from..to],
-            columns,
-            rows,
-        };
         column_sums(level, j, weights, sums);
-        let at = start + j * n;
-        reduce_along(sums, weights, &mut work[at..at + n]);
+        reduce_along(sums, weights, &mut above[j * n..j * n + n]);
     }
 }

@@ -18,16 +18,16 @@ fn magnify(kernel: u16, distance: u16) -> u16
 
 // The bound of each level in its slot.
 pub fn bound_slots(lawful: LawfulSettings) -> [u16; 7]
-    ensures { result ≡ bound_slots lawful.shape.settings }
+    ensures { result ≡ bound_slots lawful }
 {
     // Of the settings only the bins are copied, which takes less stack.
-    let bins = lawful.shape.settings.bins;
-    let top = usize::from(lawful.shape.settings.depth);
+    let bins = lawful.settings.bins;
+    let top = usize::from(lawful.settings.depth);
     let mut out: [u16; 7] = [0; 7];
     let mut bound = bins[top] / 2;
     out[top] = bound;
     for l in (0..top).rev() {
-        bound = magnify(lawful.shape.settings.kernel, bound) + bins[l] / 2;
+        bound = magnify(lawful.settings.kernel, bound) + bins[l] / 2;
         out[l] = bound;
     }
     out

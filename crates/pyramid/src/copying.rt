@@ -10,14 +10,13 @@ ghost use Rattle.pyramid.specs.Definitions.Refusals.{index_ok};
 
 use crate::{IndexRange, Settings, ranging};
 
-// Kept: the work buffer and a place in it, since what stands before the picture's place is kept.
-// The pixels as numbers, from `at` on.
-pub fn load(picture: &[u8], work: &mut [i32], at: usize)
-    requires { at + length picture.now ≤ length work.old }
-    ensures { work.new ≡ splice at (map pos picture.now) work.old }
+// The pixels as numbers.
+pub fn load(picture: &[u8], values: &mut [i32])
+    requires { length picture.now ≡ length values.old }
+    ensures { values.new ≡ map pos picture.now }
 {
     for (i, &pixel) in picture.iter().enumerate() {
-        work[at + i] = i32::from(pixel);
+        values[i] = i32::from(pixel);
     }
 }
 

@@ -10,7 +10,6 @@ ghost use Rattle.pyramid.specs.Definitions.Buffers.{raster, pixels, all_levels, 
 ghost use Rattle.pyramid.specs.Definitions.Refusals.{first, settings_refusal, buffers_refusal, values_ok, levels_refusal};
 ghost use Rattle.pyramid.specs.Definitions.Calls.{in_work, coding, rebuilding};
 ghost use Rattle.pyramid.specs.Inner.Accepted.{Sized};
-ghost use Rattle.pyramid.specs.Definitions.Shapes.{lawful_settings};
 
 use refusals::Refusal;
 
@@ -21,6 +20,7 @@ mod copying;
 mod counting;
 mod expanding;
 mod layering;
+mod levels;
 mod ranging;
 mod rasters;
 mod shapes;
@@ -67,7 +67,7 @@ pub fn total_nodes(s: Settings) -> Result<u16, Refusal>
     ensures { result ≡ outcome (nodes_answer s).refusal (nodes_answer s).nodes }
 {
     let lawful = LawfulSettings::new(s)?;
-    Ok(lawful.shape.nodes())
+    Ok(lawful.shape().nodes())
 }
 
 // T of a shape, whose bins are not looked at. Refused: 1, 13, 14, 15, 2.
@@ -120,13 +120,13 @@ fn accepted(
     levels: usize,
     work: usize,
 ) -> Result<LawfulSettings, Refusal>
-    ensures { lawful_settings result ≡ outcome (first (settings_refusal s ∷ buffers_refusal s picture levels work ∷ [])) s }
+    ensures { result ≡ outcome (first (settings_refusal s ∷ buffers_refusal s picture levels work ∷ [])) s }
 {
     let lawful = LawfulSettings::new(s)?;
-    if picture != lawful.shape.settings.rows as usize * lawful.shape.settings.columns as usize {
+    if picture != s.rows as usize * s.columns as usize {
         return Err(Refusal::PictureLength);
     }
-    let t = lawful.shape.total();
+    let t = lawful.shape().total();
     if levels != t {
         return Err(Refusal::LevelsLength);
     }
@@ -157,12 +157,13 @@ pub fn coding(
 }
 
 fn code(lawful: LawfulSettings, picture: &[u8], levels: &mut [i16], work: &mut [i32])
-    requires { let s = lawful.shape.settings in Sized s (length picture.now) (length levels.old) (length work.old) }
-    ensures levels_after { let s = lawful.shape.settings in levels.new ≡ all_levels s (index s (pixels s.columns picture.now)) }
-    ensures work_after { let s = lawful.shape.settings in work.new ≡
-        in_work s (average s (pixels s.columns picture.now)) work.old }
+    requires { Sized lawful (length picture.now) (length levels.old) (length work.old) }
+    ensures levels_after { levels.new ≡ all_levels lawful (index lawful (pixels lawful.columns picture.now)) }
+    ensures work_after { work.new ≡ in_work lawful (average lawful (pixels lawful.columns picture.now)) work.old }
 {
-    copying::load(picture, work, lawful.shape.start_of(0));
+    let level = lawful.level(0);
+    let from = level.start();
+    copying::load(picture, &mut work[from..from + level.nodes()]);
     layering::average_levels(lawful, work);
     layering::index_levels(lawful, work, levels);
 }
@@ -190,16 +191,14 @@ pub fn rebuilding(
 }
 
 fn rebuild(lawful: LawfulSettings, levels: &[i16], picture: &mut [u8], work: &mut [i32])
-    requires sized { let s = lawful.shape.settings in Sized s (length picture.old) (length levels.now) (length work.old) }
-    requires t { T (values_ok lawful.shape.settings levels.now) }
-    ensures picture_after { let s = lawful.shape.settings in picture.new ≡
-        raster s.columns s.rows
-        (λ i j. clamp s (rebuilt s (read_levels s levels.now) 0 i j)) }
-    ensures work_after { let s = lawful.shape.settings in work.new ≡
-        in_work s (rebuilt s (read_levels s levels.now)) work.old }
+    requires sized { Sized lawful (length picture.old) (length levels.now) (length work.old) }
+    requires t { T (values_ok lawful levels.now) }
+    ensures picture_after { picture.new ≡
+        raster lawful.columns lawful.rows (λ i j. clamp lawful (rebuilt lawful (read_levels lawful levels.now) 0 i j)) }
+    ensures work_after { work.new ≡ in_work lawful (rebuilt lawful (read_levels lawful levels.now)) work.old }
 {
+    let level = lawful.level(0);
     layering::value_levels(lawful, levels, work);
-    let from = lawful.shape.start_of(0);
-    let to = lawful.shape.total();
-    copying::clamp_all(lawful.shape.settings, &work[from..to], picture);
+    let from = level.start();
+    copying::clamp_all(level.settings, &work[from..from + level.nodes()], picture);
 }

@@ -5,24 +5,34 @@ ghost use Rattle.pyramid.specs.Definitions.Settings.{bins_ok};
 ghost use Rattle.pyramid.specs.Definitions.Refusals.{unless, first, shape_refusal, settings_refusal, values_ok};
 ghost use Rattle.pyramid.specs.Definitions.Sizes.{nodes_at, total};
 ghost use Rattle.pyramid.specs.Definitions.Answers.{size_of, level_size_answer};
-ghost use Rattle.pyramid.specs.Inner.Lawful.{Shaped, Lawful};
 
 use crate::{LevelSize, Settings, checking, layering};
 use refusals::Refusal;
+use std::marker::Model;
 
-// Settings whose shape is lawful.
+// Settings whose shape is lawful; contracts see the settings.
 #[derive(Clone, Copy)]
 pub struct Shape {
     pub settings: Settings,
-    pub ghost shaped: { Shaped settings },
+}
+
+impl Model for Shape {
+    ghost use Rattle.pyramid.specs.declared.Settings.{Settings};
+    ghost use Rattle.pyramid.specs.Inner.Lawful.{Shaped};
+
+    ghost Value = { Settings };
+
+    ghost view = { λ a. a.settings };
+
+    ghost invariant = { λ a. Shaped a.settings };
+
+    ghost inverse = { λ s. record { settings = s } };
 }
 
 impl Shape {
-    ghost use Rattle.pyramid.specs.Definitions.Shapes.{shape_settings, lawful_settings};
-
     // The settings, or the first rule that the shape breaks. The bins are not looked at.
     pub fn new(s: Settings) -> Result<Shape, Refusal>
-        ensures { shape_settings result ≡ outcome (shape_refusal s) s }
+        ensures { result ≡ outcome (shape_refusal s) s }
     {
         checking::check_shape(s)?;
         Ok(Shape { settings: s })
@@ -30,24 +40,25 @@ impl Shape {
 
     // T, the number of nodes of all levels.
     pub fn nodes(self) -> u16
-        ensures { result ≡ total self.settings }
+        ensures { result ≡ total self }
     {
         self.total() as u16
     }
 
     // The settings, where the bins are lawful too. Refused: 3.
     pub fn lawful(self) -> Result<LawfulSettings, Refusal>
-        ensures { lawful_settings result ≡ outcome (unless (bins_ok self.settings) 3) self.settings }
+        ensures { result ≡ outcome (unless (bins_ok self) 3) self }
     {
-        if !checking::bins_ok(self.settings) {
+        let settings = self.settings;
+        if !checking::bins_ok(settings) {
             return Err(Refusal::Bin);
         }
-        Ok(LawfulSettings { shape: self })
+        Ok(LawfulSettings { settings })
     }
 
     // The columns and rows of a level; 0 by 0 for a level above the depth.
     pub fn level_size(self, level: u16) -> LevelSize
-        ensures { result ≡ size_of (level_size_answer self.settings level) }
+        ensures { result ≡ size_of (level_size_answer self level) }
     {
         if self.settings.depth < level {
             return LevelSize {
@@ -63,37 +74,57 @@ impl Shape {
 
     // The number of nodes of a level; 0 for a level above the depth.
     pub fn level_nodes(self, level: u16) -> u16
-        ensures { result ≡ cond (leb level self.settings.depth) (nodes_at self.settings level) 0 }
+        ensures { result ≡ cond (leb level self.depth) (nodes_at self level) 0 }
     {
-        let size = self.level_size(level);
-        size.rows * size.columns
+        if self.settings.depth < level {
+            return 0;
+        }
+        self.nodes_at(level) as u16
     }
 }
 
-// A lawful shape with lawful bins: lawful settings.
+// Lawful settings: a lawful shape with lawful bins. Contracts see the settings.
 #[derive(Clone, Copy)]
 pub struct LawfulSettings {
-    pub shape: Shape,
-    pub ghost lawful: { Lawful shape.settings },
+    pub settings: Settings,
+}
+
+impl Model for LawfulSettings {
+    ghost use Rattle.pyramid.specs.declared.Settings.{Settings};
+    ghost use Rattle.pyramid.specs.Inner.Lawful.{Lawful};
+
+    ghost Value = { Settings };
+
+    ghost view = { λ a. a.settings };
+
+    ghost invariant = { λ a. Lawful a.settings };
+
+    ghost inverse = { λ s. record { settings = s } };
 }
 
 impl LawfulSettings {
-    ghost use Rattle.pyramid.specs.Definitions.Shapes.{lawful_settings};
-
     // The settings, or the first rule that they break.
     pub fn new(s: Settings) -> Result<LawfulSettings, Refusal>
-        ensures { lawful_settings result ≡ outcome (settings_refusal s) s }
+        ensures { result ≡ outcome (settings_refusal s) s }
     {
         let shape = Shape::new(s)?;
         shape.lawful()
     }
 
+    // The shape of the settings.
+    pub fn shape(self) -> Shape
+        ensures { result ≡ self }
+    {
+        let settings = self.settings;
+        Shape { settings }
+    }
+
     // Whether rebuilding can take a level buffer. Refused: 6, 11.
     pub fn check_levels(self, levels: &[i16]) -> Result<(), Refusal>
-        ensures { result ≡ outcome (first (unless (eqb (length levels.now) (total self.shape.settings)) 6
-            ∷ unless (values_ok self.shape.settings levels.now) 11 ∷ [])) tt }
+        ensures { result ≡ outcome (first (unless (eqb (length levels.now) (total self)) 6
+            ∷ unless (values_ok self levels.now) 11 ∷ [])) tt }
     {
-        if levels.len() != self.shape.total() {
+        if levels.len() != self.shape().total() {
             Err(Refusal::LevelsLength)
         } else if layering::values_ok(self, levels) {
             Ok(())

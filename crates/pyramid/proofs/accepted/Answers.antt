@@ -1,11 +1,10 @@
 -- `pyramid::accepted` meets its contract: each rule is looked at where those before it hold. Assumes nothing.
-use mathlib.Core.Path.{sym}
+use mathlib.Core.Path.{◌≡◌, sym, ◌∙◌}
 use Rattle.refusals.proofs.Outcomes.{refuses, accepts, none, value-is, some}
-use native.Mathlib.Nat.{mul-le-mul}
-use native.Mathlib.Omega.{arith}
 use borrow.Author.Tests.{eq-eqb, le-leb, ne_eqb, lt-leb}
 use Rattle.std.proofs.lemmas.Result.{err_from_is_err_and}
 use Rattle.refusals.specs.declared.Refusal.TheVariants.{PictureLength, LevelsLength, WorkLength}
+use Rattle.pyramid.specs.Definitions.Sizes.{total}
 use Rattle.pyramid.specs.Definitions.Refusals.{unless, first, buffers_refusal}
 use Rattle.pyramid.proofs.Refusals.{first_stop}
 use Rattle.pyramid.proofs.accepted.Goals as goal
@@ -16,34 +15,32 @@ returns-in_err-lawful c =
     let e = sym c.in_err-lawful.ensures in
     rw (was, from, first_stop _ _ (some _ _ e)) (sym e)
 
-pub overflow_mul-lawful : goal.overflow_mul-lawful
-overflow_mul-lawful c =
-    let shape = c.in_ok-lawful.lawful.lawful.shaped in
-    omega (arith, mul-le-mul shape.along.most shape.across.most)
-
-pub returns-then-picture-lawful : goal.returns-then-picture-lawful
+pub returns-then-picture-s : goal.returns-then-picture-s
 unfolding buffers_refusal unless first
-returns-then-picture-lawful c =
+returns-then-picture-s c =
     let e = sym c.in_ok-lawful.ensures in
-    refuses _ PictureLength (rw (none _ _ e, ← value-is _ _ e, ne_eqb _ _ c.if-picture-lawful.true))
+    refuses _ PictureLength (rw (none _ _ e, ne_eqb _ _ c.if-picture-s.true))
 
 pub returns-then-levels-t : goal.returns-then-levels-t
 unfolding buffers_refusal unless first
 returns-then-levels-t c =
     let e = sym c.in_ok-lawful.ensures in
-    refuses _ LevelsLength (rw (none _ _ e, ← value-is _ _ e, eq-eqb _ _ c.if-picture-lawful.false, ← c.total-t.ensures.0, ne_eqb _ _ c.if-levels-t.true))
+    let t : c.total-t.result ≡ total c.args.s = c.total-t.ensures.0 ∙ rw (c.shape.ensures, value-is _ _ e) in
+    refuses _ LevelsLength (rw (none _ _ e, eq-eqb _ _ c.if-picture-s.false, ← t, ne_eqb _ _ c.if-levels-t.true))
 
 pub returns-then-work-t : goal.returns-then-work-t
 unfolding buffers_refusal unless first
 returns-then-work-t c =
     let e = sym c.in_ok-lawful.ensures in
+    let t : c.total-t.result ≡ total c.args.s = c.total-t.ensures.0 ∙ rw (c.shape.ensures, value-is _ _ e) in
     refuses _ WorkLength
-    (rw (none _ _ e, ← value-is _ _ e, eq-eqb _ _ c.if-picture-lawful.false, ← c.total-t.ensures.0, eq-eqb _ _ c.if-levels-t.false, lt-leb _ _ c.if-work-t.true))
+    (rw (none _ _ e, eq-eqb _ _ c.if-picture-s.false, ← t, eq-eqb _ _ c.if-levels-t.false, lt-leb _ _ c.if-work-t.true))
 
 pub returns : goal.returns
 unfolding buffers_refusal unless first
 returns c =
     let e = sym c.in_ok-lawful.ensures in
+    let t : c.total-t.result ≡ total c.args.s = c.total-t.ensures.0 ∙ rw (c.shape.ensures, value-is _ _ e) in
     rw (value-is _ _ e)
     (accepts _
-    (rw (none _ _ e, ← value-is _ _ e, eq-eqb _ _ c.if-picture-lawful.false, ← c.total-t.ensures.0, eq-eqb _ _ c.if-levels-t.false, le-leb _ _ c.if-work-t.false)))
+    (rw (none _ _ e, eq-eqb _ _ c.if-picture-s.false, ← t, eq-eqb _ _ c.if-levels-t.false, le-leb _ _ c.if-work-t.false)))

@@ -1,6 +1,5 @@
 -- `pyramid::check_levels` meets its contract: the settings, then the levels. Assumes nothing.
-use mathlib.Core.Path.{◌≡◌, sym, ◌∙◌}
-use Rattle.refusals.specs.Definitions.Outcomes.{outcome}
+use mathlib.Core.Path.{sym, ◌∙◌}
 use Rattle.refusals.proofs.Outcomes.{none, value-is, passed_on}
 use Rattle.pyramid.specs.Definitions.Refusals.{levels_refusal}
 use Rattle.pyramid.proofs.Refusals.{first_stop, levels_parts}

@@ -1,66 +1,81 @@
 -- `pyramid::code` meets its contract: the picture is loaded, averaged where it lies, and its indices are made of the averages.
 -- Assumes nothing.
-use mathlib.Core.Path.{◌≡◌, ◌∙◌}
-use mathlib.Core.List.{List, map}
-use Prim.Native.Nat.{ℕ}
-use native.Mathlib.Omega.{arith}
-use lib.IntN.{ℤ, pos}
-use lib.ListN.{length}
+use Rattle.std.proofs.lemmas.List.{length-map}
+use Rattle.std.proofs.Common.{◌≡◌, sym, ap, subst, ◌∙◌, List, map, ◌+◌, ◌-◌, length, ◌++◌, take, drop, ℤ, pos, arith}
 use Rattle.mathematics.specs.Inner.Splices.{splice}
-use Rattle.pyramid.specs.declared.Settings.{Settings}
-use Rattle.pyramid.specs.declared.shapes.LawfulSettings.{LawfulSettings}
+use Rattle.mathematics.proofs.Splices.{part_long}
 use Rattle.pyramid.specs.Definitions.Pyramid.{average}
+use Rattle.pyramid.specs.Definitions.Sizes.{nodes_at, total}
 use Rattle.pyramid.specs.Definitions.Buffers.{Bytes, all_levels, start, read_levels}
-use Rattle.pyramid.specs.Inner.Accepted.{Sized, Accepted}
+use Rattle.pyramid.specs.Inner.Lawful.{Lawful}
+use Rattle.pyramid.specs.Inner.Accepted.{Accepted}
+use Rattle.pyramid.proofs.LentParts.{lent_back}
+use Rattle.pyramid.proofs.LevelParts.{start_bottom}
 use Rattle.pyramid.proofs.Pictures.{picture_nodes}
 use Rattle.pyramid.proofs.LoadedPictures.{loaded, averaged, loaded_ranges, averages_placed, averages_hold, indices_placed}
 use Rattle.pyramid.proofs.code.Goals as goal
+use Rattle.pyramid.proofs.code.Goals.{After-nodes}
 
--- a call whose buffers have the right lengths, and what its steps leave in the work buffer
-module _ (s : LawfulSettings) (picture : List ℕ) (levels work : List ℤ) (sized : Sized s.shape.settings (length picture) (length levels) (length work))
-    (bytes : Bytes picture) where
-  abbrev settings : Settings
-  settings = s.shape.settings
+-- once the picture's place is known
+module _ (n : After-nodes) where
+  law : Lawful n.args.lawful
+  law = subst Lawful n.level-level.ensures.0 n.level-level.result.lawful
 
-  abbrev given : Accepted settings picture levels work
-  given = record { law = s.lawful; sized = sized }
+  bytes : Bytes n.args.picture.now
+  bytes p = (n.type_inv.picture p).fits
 
-  loaded_is : (at : ℕ) → at ≡ start settings 0 → {left : List ℤ} → left ≡ splice at (map pos picture) work → left ≡ loaded given bytes
-  loaded_is at e l = rw e at l
+  given : Accepted n.args.lawful n.args.picture.now n.args.levels.now n.args.work.now
+  given = record { law = law; sized = n.requires }
+
+  place : n.start-from.result ≡ start n.args.lawful 0
+  place = n.start-from.ensures.0 ∙ rw (n.level-level.ensures.0, n.level-level.ensures.1)
+
+  nodes : n.nodes.result ≡ nodes_at n.args.lawful 0
+  nodes = n.nodes.ensures.0 ∙ rw (n.level-level.ensures.0, n.level-level.ensures.1)
+
+  end : n.start-from.result + n.nodes.result ≡ total n.args.lawful
+  end = rw (place, nodes) (start_bottom n.args.lawful)
+
+  pixels_long : length n.args.picture.now ≡ n.nodes.result
+  pixels_long = omega (arith, end, place, picture_nodes n.args.lawful law, n.requires.picture_is)
+
+  -- what the steps leave in the work buffer: the picture in its place, and the averages
+  loaded_is : {values : List ℤ} → values ≡ map pos n.args.picture.now
+      → take n.start-from.result n.args.work.now ++ (values ++ drop (n.start-from.result + n.nodes.result - n.start-from.result) (drop n.start-from.result n.args.work.now)) ≡ loaded given bytes
+  loaded_is {values} e =
+      let long : length values ≡ length n.args.picture.now = ap length e ∙ length-map n.args.picture.now pos in
+      lent_back n.start-from.result (n.start-from.result + n.nodes.result - n.start-from.result) n.args.work.now values (omega (arith, long, pixels_long)) ∙ rw (e, place)
 
   averaged_is : {left made : List ℤ} → left ≡ loaded given bytes
-      → made ≡ splice 0 (all_levels settings (average settings (read_levels settings left 0))) left → made ≡ averaged given bytes
+      → made ≡ splice 0 (all_levels n.args.lawful (average n.args.lawful (read_levels n.args.lawful left 0))) left → made ≡ averaged given bytes
   averaged_is l m = (rw l at m) ∙ averages_placed given bytes
 
-pub load-requires : goal.load-requires
-load-requires c = omega (arith, picture_nodes c.args.lawful.shape.settings c.args.lawful.lawful, c.start_of.ensures.0, c.requires.picture_is, c.requires.work_least)
+pub slice_bounds-load-end : goal.slice_bounds-load-end
+slice_bounds-load-end c = omega (arith, end c, c.requires.work_least)
 
-pub average_levels-requires : goal.average_levels-requires
-average_levels-requires c =
-    let b : Bytes c.args.picture.now = λ p. (c.type_inv.picture p).fits in
-    let l = loaded_is c.args.lawful c.args.picture.now c.args.levels.now c.args.work.now c.requires b _ c.start_of.ensures.0 c.load.ensures in
-    record {
-      s_in_bounds = omega (arith, c.load.auto.work, c.requires.work_least);
-      coding_ranges = rw l (loaded_ranges (given c.args.lawful c.args.picture.now c.args.levels.now c.args.work.now c.requires b) b);
-    }
+pub load-requires : goal.load-requires
+load-requires c =
+    let n = (goal.at.load-requires c).After-nodes in
+    pixels_long n ∙ sym (part_long n.start-from.result n.nodes.result n.args.work.now (omega (arith, end n, n.requires.work_least)))
+
+pub average_levels-requires-clause-coding_ranges : goal.average_levels-requires-clause-coding_ranges
+average_levels-requires-clause-coding_ranges c =
+    let n = (goal.at.average_levels-requires-clause-coding_ranges c).After-nodes in
+    rw (loaded_is n c.load.ensures) (loaded_ranges (given n) (bytes n))
 
 pub index_levels-requires : goal.index_levels-requires
 index_levels-requires c =
-    let b : Bytes c.args.picture.now = λ p. (c.type_inv.picture p).fits in
-    let l = loaded_is c.args.lawful c.args.picture.now c.args.levels.now c.args.work.now c.requires b _ c.start_of.ensures.0 c.load.ensures in
-    let a = averaged_is c.args.lawful c.args.picture.now c.args.levels.now c.args.work.now c.requires b l c.average_levels.ensures in
-    rw a (averages_hold (given c.args.lawful c.args.picture.now c.args.levels.now c.args.work.now c.requires b) b)
+    let n = (goal.at.index_levels-requires c).After-nodes in
+    rw (averaged_is n (loaded_is n c.load.ensures) c.average_levels.ensures) (averages_hold (given n) (bytes n))
 
 -- the indices are those of the averages that were made,
 -- and the averages lie where they were made
-pub returns : goal.returns
-returns c =
-    let b : Bytes c.args.picture.now = λ p. (c.type_inv.picture p).fits in
-    let l = loaded_is c.args.lawful c.args.picture.now c.args.levels.now c.args.work.now c.requires b _ c.start_of.ensures.0 c.load.ensures in
-    let a = averaged_is c.args.lawful c.args.picture.now c.args.levels.now c.args.work.now c.requires b l c.average_levels.ensures in
-    record {
-      levels_after =
-          (rw a at c.index_levels.ensures)
-          ∙ indices_placed (given c.args.lawful c.args.picture.now c.args.levels.now c.args.work.now c.requires b) b;
-      work_after = a;
-    }
+pub returns-clause-levels_after : goal.returns-clause-levels_after
+returns-clause-levels_after c =
+    let n = (goal.at.returns-clause-levels_after c).After-nodes in
+    (rw (averaged_is n (loaded_is n c.load.ensures) c.average_levels.ensures) at c.index_levels.ensures) ∙ indices_placed (given n) (bytes n)
+
+pub returns-clause-work_after : goal.returns-clause-work_after
+returns-clause-work_after c =
+    let n = (goal.at.returns-clause-work_after c).After-nodes in
+    averaged_is n (loaded_is n c.load.ensures) c.average_levels.ensures

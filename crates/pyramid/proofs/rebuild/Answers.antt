@@ -1,44 +1,49 @@
 -- `pyramid::rebuild` meets its contract: the picture is clamped from the last part of the work buffer. Assumes nothing.
-use mathlib.Core.Path.{◌≡◌, sym, ◌∙◌}
-use Prim.Native.Nat.{ℕ}
-use native.Mathlib.Omega.{arith}
-use Rattle.pyramid.specs.Definitions.Sizes.{Level}
+use Rattle.std.proofs.Common.{◌≡◌, sym, subst, ◌∙◌, ℕ, ◌+◌, arith}
+use Rattle.pyramid.specs.Definitions.Sizes.{Level, nodes_at, total}
 use Rattle.pyramid.specs.Definitions.Rebuilding.{rebuilt}
-use Rattle.pyramid.specs.Definitions.Buffers.{read_levels}
-use Rattle.pyramid.specs.Definitions.Calls.{in_work}
+use Rattle.pyramid.specs.Definitions.Buffers.{start, read_levels}
+use Rattle.pyramid.specs.Inner.Lawful.{Lawful}
 use Rattle.pyramid.proofs.Ranges.{rebuilding_ranges}
+use Rattle.pyramid.proofs.LevelParts.{start_bottom}
 use Rattle.pyramid.proofs.LevelPlaces.{front_all}
-use Rattle.pyramid.proofs.Pictures.{picture_nodes, picture_length, picture_clamped}
+use Rattle.pyramid.proofs.Pictures.{picture_length, picture_clamped}
 use Rattle.pyramid.proofs.rebuild.Goals as goal
+use Rattle.pyramid.proofs.rebuild.Goals.{After-nodes}
 
-pub value_levels-requires : goal.value_levels-requires
-value_levels-requires c =
-    record {
-      levels_len = (c.requires.sized.levels_is, c.requires.sized.work_least);
-      rebuilding_ranges = rebuilding_ranges c.args.lawful.shape.settings c.args.lawful.lawful c.args.levels.now c.requires.t;
-    }
+pub value_levels-requires-clause-rebuilding_ranges : goal.value_levels-requires-clause-rebuilding_ranges
+value_levels-requires-clause-rebuilding_ranges c =
+    rebuilding_ranges c.args.lawful (subst Lawful c.level-level.ensures.0 c.level-level.result.lawful) c.args.levels.now c.requires.t
 
-pub slice_bounds-clamp_all-count : goal.slice_bounds-clamp_all-count
-slice_bounds-clamp_all-count c = omega (arith, picture_nodes c.args.lawful.shape.settings c.args.lawful.lawful, c.total-to.ensures.0, c.start_of-from.ensures.0)
+-- once the picture's place is known
+module _ (n : After-nodes) where
+  law : Lawful n.args.lawful
+  law = subst Lawful n.level-level.ensures.0 n.level-level.result.lawful
 
-pub slice_bounds-clamp_all-start : goal.slice_bounds-clamp_all-start
-slice_bounds-clamp_all-start c = omega (arith, picture_nodes c.args.lawful.shape.settings c.args.lawful.lawful, c.total-to.ensures.0, c.start_of-from.ensures.0)
+  place : n.start-from.result ≡ start n.args.lawful 0
+  place = n.start-from.ensures.0 ∙ rw (n.level-level.ensures.0, n.level-level.ensures.1)
+
+  nodes : n.nodes.result ≡ nodes_at n.args.lawful 0
+  nodes = n.nodes.ensures.0 ∙ rw (n.level-level.ensures.0, n.level-level.ensures.1)
+
+  end : n.start-from.result + n.nodes.result ≡ total n.args.lawful
+  end = rw (place, nodes) (start_bottom n.args.lawful)
+
+pub slice_bounds-clamp_all-end : goal.slice_bounds-clamp_all-end
+slice_bounds-clamp_all-end c = let n = (goal.at.slice_bounds-clamp_all-end c).After-nodes in omega (arith, end n, c.requires.sized.work_least)
 
 pub clamp_all-requires : goal.clamp_all-requires
 clamp_all-requires c =
-    rw (c.total-to.ensures.0, c.start_of-from.ensures.0)
-    (picture_length c.args.lawful.shape.settings c.args.lawful.lawful c.value_levels.new.work (omega (arith, c.value_levels.auto.work, c.requires.sized.work_least))
-    ∙ sym c.requires.sized.picture_is)
+    let n = (goal.at.clamp_all-requires c).After-nodes in
+    rw (end n, place n) (picture_length c.args.lawful (law n) c.value_levels.new.work (omega (arith, c.value_levels.auto.work, c.requires.sized.work_least)) ∙ sym c.requires.sized.picture_is)
 
-pub returns : goal.returns
-returns c =
-    let s = c.args.lawful.shape.settings in
-    let values : ℕ → Level = rebuilt s (read_levels s c.args.levels.now) in
-    let worked : c.value_levels.new.work ≡ in_work s values c.args.work.now = c.value_levels.ensures ∙ front_all s values c.args.work.now in
-    record {
-      picture_after =
-          (rw (c.total-to.ensures.0, c.start_of-from.ensures.0) at c.clamp_all.ensures)
-          ∙ picture_clamped s c.args.lawful.lawful values c.args.work.now c.value_levels.new.work worked
-          (omega (arith, c.value_levels.auto.work, c.requires.sized.work_least));
-      work_after = worked;
-    }
+pub returns-clause-picture_after : goal.returns-clause-picture_after
+returns-clause-picture_after c =
+    let n = (goal.at.returns-clause-picture_after c).After-nodes in
+    let values : ℕ → Level = rebuilt c.args.lawful (read_levels c.args.lawful c.args.levels.now) in
+    (rw (end n, place n, c.level-level.ensures.0) at c.clamp_all.ensures)
+    ∙ picture_clamped c.args.lawful (law n) values c.args.work.now c.value_levels.new.work (c.value_levels.ensures ∙ front_all c.args.lawful values c.args.work.now)
+    (omega (arith, c.value_levels.auto.work, c.requires.sized.work_least))
+
+pub returns-clause-work_after : goal.returns-clause-work_after
+returns-clause-work_after c = c.value_levels.ensures ∙ front_all c.args.lawful (rebuilt c.args.lawful (read_levels c.args.lawful c.args.levels.now)) c.args.work.now

@@ -13,4 +13,4 @@ pub returns : goal.returns
 unfolding nodes_answer
 returns c =
     let e = sym c.in_ok-lawful.ensures in
-    rw (outcome_left, c.nodes.ensures, value-is _ _ e) (accepts _ (none _ _ e))
+    rw (outcome_left, c.nodes.ensures, c.shape.ensures, value-is _ _ e) (accepts _ (none _ _ e))

@@ -39,14 +39,11 @@ pub record ValuesWithin (indices : List ℤ) (bin : ℕ) : Type 0 where
 abbrev pub halved_nodes : ℕ → ℕ → ℕ
 halved_nodes columns rows = ((rows - 1) / 2 + 1) * ((columns - 1) / 2 + 1)
 
--- a level that starts at `from` in a buffer and has room for the next one right before it
-pub record Reducible (from columns rows : ℕ) (buffer : List ℤ) : Type 0 where
+-- a level of so many columns and rows that is reduced to so many nodes
+pub record Reducible (columns rows : ℕ) (level : List ℤ) (nodes : ℕ) : Type 0 where
   pub wide : 3 ≤ columns
   pub high : 3 ≤ rows
-  pub wide_most : columns ≤ 129
-  pub high_most : rows ≤ 129
   pub wide_even : (columns - 1) % 2 ≡ 0
   pub high_even : (rows - 1) % 2 ≡ 0
-  pub before : halved_nodes columns rows ≤ from
-  pub fits : from + rows * columns ≤ length buffer
-  pub small : Small limit (part from (from + rows * columns) buffer)
+  pub above : nodes ≡ halved_nodes columns rows
+  pub small : Small limit level

@@ -4,7 +4,7 @@ use Rattle.pyramid.proofs.BoundSlots.{filled_start, filled_next, filled_end}
 use Rattle.pyramid.proofs.bounding.bound_slots.Goals as goal
 
 pub loop-l-init : goal.loop-l-init
-loop-l-init c = rw c.from-top.ensures (filled_start c.args.lawful.lawful)
+loop-l-init c = rw c.from-top.ensures (filled_start c.lawful.invariant)
 
 pub overflow_add-bound : goal.overflow_add-bound
 overflow_add-bound c = let k = filled_next c.loop-l.invariant c.loop-l-test.true in omega arith
@@ -13,4 +13,4 @@ pub loop-l-preserved : goal.loop-l-preserved
 loop-l-preserved c = rw c.magnify.ensures (filled_next c.loop-l.invariant c.loop-l-test.true)
 
 pub returns : goal.returns
-returns c = filled_end c.loop-l.invariant (omega arith)
+returns c = rw (← c.lawful.view_is) (filled_end c.loop-l.invariant (omega arith))

@@ -1,8 +1,8 @@
 -- `pyramid::copying::load` meets its contract: each turn of its loop stores one pixel. Assumes nothing.
-use Rattle.std.proofs.Common.{◌∙◌, ap, List, ℤ, pos, arith, rules}
-use Rattle.mathematics.specs.Inner.Splices.{splice}
+use Rattle.std.proofs.Common.{◌∙◌, pos, arith, rules}
 use Rattle.mathematics.proofs.Tables.{tabulate-map}
-use Rattle.mathematics.proofs.Filling.{filling_start, filling_next, filling_end}
+use Rattle.mathematics.proofs.Filling.{filling_start, filling_next}
+use Rattle.pyramid.proofs.LentParts.{filled_whole}
 use Rattle.pyramid.proofs.copying.load.Goals as goal
 
 pub loop-i-init : goal.loop-i-init
@@ -12,4 +12,4 @@ pub loop-i-preserved : goal.loop-i-preserved
 loop-i-preserved c = filling_next c.loop-i.invariant (omega arith) (omega arith) (search rules) (omega arith)
 
 pub returns : goal.returns
-returns c = filling_end c.loop-i.invariant c.loop-i-test.false ∙ ap (λ (xs : List ℤ). splice c.args.at xs c.args.work.now) (tabulate-map pos 0 c.args.picture.now)
+returns c = filled_whole c.loop-i.invariant (omega arith) (omega arith) ∙ tabulate-map pos 0 c.args.picture.now

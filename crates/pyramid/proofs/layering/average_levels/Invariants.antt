@@ -6,4 +6,4 @@ use Rattle.pyramid.proofs.AverageLevels.{Averaged}
 use Rattle.pyramid.proofs.layering.average_levels.Given as goal
 
 abbrev pub invariant-loop-l : goal.invariant-loop-l
-invariant-loop-l l = (law : Lawful l.lawful.shape.settings) (long : total l.lawful.shape.settings ≤ length l.initial.work) → Averaged l.lawful.shape.settings law l.initial.work long l.work l.l
+invariant-loop-l l = (law : Lawful l.lawful) (long : total l.lawful ≤ length l.initial.work) → Averaged l.lawful law l.initial.work long l.work l.l

@@ -3,4 +3,4 @@ use Rattle.pyramid.proofs.IndexRows.{Indices}
 use Rattle.pyramid.proofs.layering.index_level.Given as goal
 
 abbrev pub invariant-loop-j : goal.invariant-loop-j
-invariant-loop-j l = Indices l.lawful.shape.settings l.l l.work l.initial.levels l.levels l.j
+invariant-loop-j l = Indices l.level.settings l.level.number l.work l.initial.levels l.levels l.j

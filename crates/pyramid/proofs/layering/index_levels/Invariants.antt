@@ -3,4 +3,4 @@ use Rattle.pyramid.proofs.IndexLevels.{IndexedBefore}
 use Rattle.pyramid.proofs.layering.index_levels.Given as goal
 
 abbrev pub invariant-loop-l : goal.invariant-loop-l
-invariant-loop-l l = IndexedBefore l.lawful.shape.settings l.work l.levels l.l
+invariant-loop-l l = IndexedBefore l.lawful l.work l.levels l.l

@@ -1,78 +1,78 @@
 -- `pyramid::layering::predict_row` meets its contract: zeros at the top, below it what `expand_row` promises. Assumes nothing.
-use mathlib.Core.Path.{◌≡◌, sym, ap, ap₂, ◌∙◌}
-use Prim.Native.Nat.{ℕ, suc, ◌+◌, ◌-◌, ◌*◌, ◌≤◌, ◌<◌}
-use native.Mathlib.Numerals.{add-one}
-use native.Mathlib.Omega.{arith}
-use lib.ListN.{length}
+use Rattle.std.proofs.Common.{◌≡◌, ◌∙◌, suc, ◌+◌, ◌-◌, ◌≤◌, ◌<◌, length, take, drop, arith}
+use Rattle.std.proofs.lemmas.List.{length-drop, length-take-le, take-take}
 use Rattle.mathematics.specs.Inner.Splices.{part}
-use Rattle.pyramid.specs.Definitions.Sizes.{columns_at, rows_at, nodes_at, total}
+use Rattle.pyramid.specs.Definitions.Sizes.{columns_at, rows_at, nodes_at}
 use Rattle.pyramid.specs.Definitions.Buffers.{start}
-use Rattle.pyramid.proofs.Sizes.{total_most}
-use Rattle.pyramid.proofs.LevelSteps.{Source}
-use Rattle.pyramid.proofs.LevelParts.{start-below, level_inside}
-use Rattle.pyramid.proofs.Prediction.{top_row, below_row, below-source, below_sizes}
+use Rattle.pyramid.proofs.LevelParts.{start-below}
+use Rattle.pyramid.proofs.Prediction.{top_row, below_row, below_small, below_sizes}
 use Rattle.pyramid.proofs.layering.predict_row.Goals as goal
-use Rattle.pyramid.proofs.layering.predict_row.Goals.{After-rows_at-rows}
+use Rattle.pyramid.proofs.layering.predict_row.Goals.{After-start-start, After-raster}
 
--- what is known once the size of the level above is there
-module _ (r : After-rows_at-rows) where
-  below : r.args.l < r.args.lawful.shape.settings.depth
-  below = omega (arith, r.if-l-lawful.false, r.requires.l_le_depth.0)
+-- what is known once the place of the level above is there
+module _ (r : After-start-start) where
+  below : r.args.level.number < r.args.level.settings.depth
+  below = omega (arith, r.if-level.false, r.args.level.within)
 
-  across : r.columns_at-columns.result ≡ columns_at r.args.lawful.shape.settings (suc r.args.l)
-  across = r.columns_at-columns.ensures.0 ∙ ap (columns_at r.args.lawful.shape.settings) (add-one r.args.l)
+  place : r.start-start.result ≡ start r.args.level.settings (suc r.args.level.number)
+  place = r.start-start.ensures.0 ∙ rw (r.above-above.ensures.0, r.above-above.ensures.1)
 
-  along : r.rows_at-rows.result ≡ rows_at r.args.lawful.shape.settings (suc r.args.l)
-  along = r.rows_at-rows.ensures.0 ∙ ap (rows_at r.args.lawful.shape.settings) (add-one r.args.l)
+  above : r.start-start.result + nodes_at r.args.level.settings (suc r.args.level.number) ≤ length r.args.before.now
+  above = omega (arith, place, start-below r.args.level.settings r.args.level.number below, r.requires.lengths.1)
 
-  nodes : r.rows_at-rows.result * r.columns_at-columns.result ≡ nodes_at r.args.lawful.shape.settings (suc r.args.l)
-  nodes = ap₂ (λ (m n : ℕ). m * n) along across
+  rest_long : length (take (length r.args.before.now - r.start-start.result) (drop r.start-start.result r.args.before.now)) ≡ length r.args.before.now - r.start-start.result
+  rest_long = length-take-le _ _ (omega (arith, length-drop r.start-start.result r.args.before.now))
 
-  -- the level above ends where this one starts
-  end : r.args.from ≡ start r.args.lawful.shape.settings (suc r.args.l) + nodes_at r.args.lawful.shape.settings (suc r.args.l)
-  end = r.requires.l_le_depth.4 ∙ sym (start-below r.args.lawful.shape.settings r.args.l below)
+pub slice_bounds-raster-count : goal.slice_bounds-raster-count
+slice_bounds-raster-count c = omega (arith, above c)
 
-  place : r.args.from - r.rows_at-rows.result * r.columns_at-columns.result ≡ start r.args.lawful.shape.settings (suc r.args.l)
-  place = omega (arith, nodes, end)
+pub slice_bounds-raster-start : goal.slice_bounds-raster-start
+slice_bounds-raster-start c = omega (arith, above c)
 
-  before-all : r.args.from ≤ total r.args.lawful.shape.settings
-  before-all = omega (arith, end, level_inside r.args.lawful.shape.settings (suc r.args.l) below)
+pub raster-requires : goal.raster-requires
+raster-requires c =
+    let r = (goal.at.raster-requires c).After-start-start in
+    rw (c.above-above.ensures.0, c.above-above.ensures.1, rest_long r) (omega (arith, above r))
 
-  near : r.args.from ≤ 22359
-  near = omega (arith, before-all, total_most r.args.lawful.shape.settings r.args.lawful.lawful.shaped)
+-- and once its values are
+module _ (n : After-raster) where
+  abbrev r : After-start-start
+  r = n.before.before
 
-  source : Source 524288 r.columns_at-columns.result r.rows_at-rows.result (part (r.args.from - r.rows_at-rows.result * r.columns_at-columns.result) r.args.from r.args.work.now)
-  source = below-source r.args.lawful.shape.settings r.args.l r.args.j r.args.work.now r.args.lawful.lawful r.requires.l_le_depth.2 below place end along across 524288 r.requires.level_small
+  across : n.raster.result.columns ≡ columns_at n.args.level.settings (suc n.args.level.number)
+  across = n.raster.ensures.size.0 ∙ rw (n.above-above.ensures.0, n.above-above.ensures.1)
 
-pub returns-then-l-lawful : goal.returns-then-l-lawful
-returns-then-l-lawful c =
-    let a = c.args in
-    c.fill.ensures.after (λ y h. h) ∙ top_row a.lawful.shape.settings a.l a.j a.work.now (omega (arith, c.if-l-lawful.true)) _ c.requires.l_le_depth.3
+  along : n.raster.result.rows ≡ rows_at n.args.level.settings (suc n.args.level.number)
+  along = n.raster.ensures.size.1 ∙ rw (n.above-above.ensures.0, n.above-above.ensures.1)
 
-pub overflow_sub-above : goal.overflow_sub-above
-overflow_sub-above c = let r = (goal.at.overflow_sub-above c).After-rows_at-rows in omega (arith, nodes r, end r)
-
-pub offset_bounds-work-from : goal.offset_bounds-work-from
-offset_bounds-work-from c = omega (arith, near (goal.at.offset_bounds-work-from c).After-rows_at-rows)
-
-pub slice_bounds-above-end : goal.slice_bounds-above-end
-slice_bounds-above-end c = let r = (goal.at.slice_bounds-above-end c).After-rows_at-rows in omega (arith, before-all r, r.requires.l_le_depth.2)
-
-pub invariant_of-above : goal.invariant_of-above
-invariant_of-above c = let s = source (goal.at.invariant_of-above c).After-rows_at-rows in record { wide = s.wide; high = s.high; filled = s.filled }
+  held : n.raster.result.values.now ≡ part (start n.args.level.settings (suc n.args.level.number)) (start n.args.level.settings (suc n.args.level.number) + nodes_at n.args.level.settings (suc n.args.level.number)) n.args.before.now
+  held =
+      let s = n.args.level.settings in
+      let up = suc n.args.level.number in
+      let nodes : start s up + nodes_at s up - start s up ≡ nodes_at s up = omega arith in
+      n.raster.ensures.values
+      ∙ rw (n.above-above.ensures.0, n.above-above.ensures.1, place r, nodes)
+      (take-take (nodes_at s up) (length n.args.before.now - start s up) (drop (start s up) n.args.before.now) (omega (arith, place r, above r)))
 
 pub expand_row-requires-clause-j_bound : goal.expand_row-requires-clause-j_bound
 expand_row-requires-clause-j_bound c =
-    let r = (goal.at.expand_row-requires-clause-j_bound c).After-rows_at-rows in
-    let a = r.args in
-    below_sizes a.lawful.shape.settings a.l a.j a.work.now r.args.lawful.lawful r.requires.l_le_depth.2 (below r) (place r) (end r) (along r) (across r) (length a.row.now) r.requires.l_le_depth.1 r.requires.l_le_depth.3
+    let n = (goal.at.expand_row-requires-clause-j_bound c).After-raster in
+    let a = c.args in
+    below_sizes a.level.settings a.level.number a.j a.before.now a.level.lawful (below (r n)) c.requires.lengths.1 (held n) (along n) (across n) _ c.requires.lengths.0 c.requires.lengths.2
 
 pub expand_row-requires-clause-small : goal.expand_row-requires-clause-small
-expand_row-requires-clause-small c = (source (goal.at.expand_row-requires-clause-small c).After-rows_at-rows).small
+expand_row-requires-clause-small c =
+    let n = (goal.at.expand_row-requires-clause-small c).After-raster in
+    let a = c.args in
+    below_small a.level.settings a.level.number a.j a.before.now a.level.lawful (below (r n)) c.requires.lengths.1 (held n) (along n) (across n) _ c.requires.small
 
-pub returns-else-l-lawful : goal.returns-else-l-lawful
-returns-else-l-lawful c =
-    let r = (goal.at.returns-else-l-lawful c).After-rows_at-rows in
-    let a = r.args in
-    (rw c.new.ensures at c.expand_row.ensures)
-    ∙ below_row a.lawful.shape.settings a.l a.j a.work.now r.args.lawful.lawful r.requires.l_le_depth.2 (below r) (place r) (end r) (along r) (across r) r.requires.l_le_depth.1
+pub returns-then-level : goal.returns-then-level
+returns-then-level c = c.fill.ensures.after (λ y h. h) ∙ top_row c.args.level.settings c.args.level.number c.args.j c.args.before.now (omega arith) _ c.requires.lengths.2
+
+pub returns-else-level : goal.returns-else-level
+returns-else-level c =
+    let n = (goal.at.returns-else-level c).After-raster in
+    let a = c.args in
+    c.expand_row.ensures
+    ∙ rw (c.weights.ensures)
+    (below_row a.level.settings a.level.number a.j a.before.now a.level.lawful (below (r n)) c.requires.lengths.1 (held n) (along n) (across n) c.requires.lengths.0)

@@ -3,4 +3,4 @@ use Rattle.pyramid.proofs.ValueLevels.{Values}
 use Rattle.pyramid.proofs.layering.value_level.Given as goal
 
 abbrev pub invariant-loop-j : goal.invariant-loop-j
-invariant-loop-j l = Values l.lawful.shape.settings l.l l.levels l.initial.work l.work l.j
+invariant-loop-j l = Values l.level.settings l.level.number l.levels l.fn.work l.initial.here l.here l.j

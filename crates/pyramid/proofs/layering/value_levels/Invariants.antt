@@ -4,4 +4,4 @@ use Rattle.pyramid.proofs.ValueLevels.{Rebuildable, Rebuilding}
 use Rattle.pyramid.proofs.layering.value_levels.Given as goal
 
 abbrev pub invariant-loop-l : goal.invariant-loop-l
-invariant-loop-l l = Rebuildable l.lawful.shape.settings l.levels l.initial.work → Rebuilding l.lawful.shape.settings l.levels l.initial.work l.work (start l.lawful.shape.settings l.l)
+invariant-loop-l l = Rebuildable l.lawful l.levels l.initial.work → Rebuilding l.lawful l.levels l.initial.work l.work (start l.lawful l.l)

@@ -1,13 +1,12 @@
 -- `pyramid::shapes::LawfulSettings::new` meets its contract: the bins are looked at where the shape passes. Assumes nothing.
 use mathlib.Core.Path.{◌≡◌, sym, ap, ◌∙◌}
-use mathlib.Core.List.{[], ◌∷◌}
 use Prim.Native.Nat.{ℕ}
 use Rattle.std.proofs.lemmas.Result.{err_from_is_err_and}
 use Rattle.refusals.specs.Definitions.Outcomes.{outcome}
 use Rattle.refusals.proofs.Outcomes.{none, value-is, some}
 use Rattle.pyramid.specs.declared.Settings.{Settings}
 use Rattle.pyramid.specs.Definitions.Settings.{bins_ok}
-use Rattle.pyramid.specs.Definitions.Refusals.{unless, first, shape_refusal, settings_refusal}
+use Rattle.pyramid.specs.Definitions.Refusals.{unless, shape_refusal, settings_refusal}
 use Rattle.pyramid.proofs.Refusals.{first_stop, first_skip, first-last}
 use Rattle.pyramid.proofs.shapes.LawfulSettings.new.Goals as goal
 
