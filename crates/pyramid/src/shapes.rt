@@ -76,10 +76,11 @@ impl Shape {
     pub fn level_nodes(self, level: u16) -> u16
         ensures { result ≡ cond (leb level self.depth) (nodes_at self level) 0 }
     {
-        if self.settings.depth < level {
-            return 0;
+        if level <= self.settings.depth {
+            self.nodes_at(level) as u16
+        } else {
+            0
         }
-        self.nodes_at(level) as u16
     }
 }
 

@@ -70,12 +70,8 @@ index_levels-requires c =
 
 -- the indices are those of the averages that were made,
 -- and the averages lie where they were made
-pub returns-clause-levels_after : goal.returns-clause-levels_after
-returns-clause-levels_after c =
-    let n = (goal.at.returns-clause-levels_after c).After-nodes in
-    (rw (averaged_is n (loaded_is n c.load.ensures) c.average_levels.ensures) at c.index_levels.ensures) ∙ indices_placed (given n) (bytes n)
-
-pub returns-clause-work_after : goal.returns-clause-work_after
-returns-clause-work_after c =
-    let n = (goal.at.returns-clause-work_after c).After-nodes in
-    averaged_is n (loaded_is n c.load.ensures) c.average_levels.ensures
+pub returns : goal.returns
+returns c =
+    let n = (goal.at.returns c).After-nodes in
+    let a = averaged_is n (loaded_is n c.load.ensures) c.average_levels.ensures in
+    record { levels_after = (rw a at c.index_levels.ensures) ∙ indices_placed (given n) (bytes n); work_after = a }
