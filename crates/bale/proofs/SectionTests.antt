@@ -1,10 +1,13 @@
 -- The tests of a section's count and items, one by one, and of its indices. Assumes nothing.
 use mathlib.Core.Path.{◌≡◌, sym, ◌∙◌}
 use mathlib.Core.List.{List}
-use Prim.Native.Nat.{ℕ, ◌+◌, ◌*◌, ◌≤◌, ◌<◌}
+use Prim.Native.Nat.{ℕ, ◌+◌, ◌-◌, ◌*◌, ◌≤◌, ◌<◌}
+use native.Mathlib.Nat.{add-zero}
+use native.Mathlib.Omega.{arith}
 use borrow.Author.Tests.{le-leb, lt-leb, eq-eqb, ne_eqb}
 use lib.IntN.{ℤ}
-use lib.ListN.{length, get_or, get_or-map}
+use lib.ListN.{length, get_or, take, drop, get_or-map, length-drop}
+use Rattle.std.proofs.lemmas.List.{get_or-take, get_or-drop}
 use Rattle.mathematics.specs.Definitions.Tests.{all}
 use Rattle.pyramid.specs.declared.IndexRange.{IndexRange}
 use Rattle.pyramid.specs.Definitions.Refusals.{index_ok}
@@ -13,24 +16,48 @@ use Rattle.pyramid.proofs.Refusals.{answers_fails, answers_passes}
 use Rattle.pyramid.proofs.IndexRanges.{Ranged, ranged_next, ranged_end}
 use Rattle.bale.specs.Definitions.Words.{u16_at, words_at, word_index, indices_at}
 use Rattle.bale.specs.Definitions.Sections.{section_refusal}
+use Rattle.bale.proofs.Sections.{section_accepted}
 use Rattle.bale.proofs.WordLists.{get_or-words_at}
 use Rattle.bale.proofs.LevelTrips.{length_indices}
 
 -- ---- a section: its count is absent, or wrong, or its items are not all there
 
-module _ (bytes : List ℕ) (at count size : ℕ) where
-  pub count_absent : length bytes < at + 2 → 9 ≡ section_refusal bytes at count size
+-- the two bytes of a count and the bytes after them, of what stands from a place on
+abbrev pub Cut : List ℕ → List ℕ → List ℕ → Type 0
+Cut rest found items = (found ≡ take 2 rest) × (items ≡ drop 2 rest) × (length items + 2 ≡ length rest)
+
+module _ (bytes : List ℕ) (at count size : ℕ) {rest : List ℕ} (r : rest ≡ drop at bytes) where
+  long : length rest ≡ length bytes - at
+  long = rw r (length-drop at bytes)
+
+  pub count_absent : length rest < 2 → 9 ≡ section_refusal bytes at count size
   unfolding section_refusal
-  count_absent h = answers_fails _ (lt-leb _ _ h)
+  count_absent h = answers_fails _ (lt-leb _ _ (omega (arith, h, long)))
 
-  module _ (h : at + 2 ≤ length bytes) where
-    pub count_wrong : (u16_at bytes at ≡ count → ⊥) → 10 ≡ section_refusal bytes at count size
-    unfolding section_refusal
-    count_wrong wrong = answers_fails _ (ne_eqb _ _ wrong) ∙ answers_passes 9 _ (le-leb _ _ h)
+  module _ {found items : List ℕ} (cut : Cut rest found items) where
+    pub there : at + 2 ≤ length bytes
+    there = omega (arith, cut.2, long)
 
-    pub items_absent : u16_at bytes at ≡ count → length bytes < at + 2 + size * count → 9 ≡ section_refusal bytes at count size
-    unfolding section_refusal
-    items_absent counted short = answers_fails _ (lt-leb _ _ short) ∙ answers_passes 10 _ (eq-eqb _ _ counted) ∙ answers_passes 9 _ (le-leb _ _ h)
+    module _ {n : ℕ} (e : n ≡ get_or found 0 0 + get_or found 1 0 * 256) where
+      pub count_read : n ≡ u16_at bytes at
+      unfolding u16_at
+      count_read =
+          let low : get_or found 0 0 ≡ get_or bytes (at + 0) 0 = rw (cut.0, r) (get_or-take 2 (drop at bytes) 0 0 (omega arith) ∙ get_or-drop at bytes 0 0) in
+          let high : get_or found 1 0 ≡ get_or bytes (at + 1) 0 = rw (cut.0, r) (get_or-take 2 (drop at bytes) 1 0 (omega arith) ∙ get_or-drop at bytes 1 0) in
+          omega (arith, e, rw add-zero at low, high)
+
+      pub count_wrong : (n ≡ count → ⊥) → 10 ≡ section_refusal bytes at count size
+      unfolding section_refusal
+      count_wrong wrong = answers_fails _ (ne_eqb _ _ (λ w. wrong (count_read ∙ w))) ∙ answers_passes 9 _ (le-leb _ _ there)
+
+      module _ (counted : n ≡ count) where
+        pub items_absent : length items < size * count → 9 ≡ section_refusal bytes at count size
+        unfolding section_refusal
+        items_absent short =
+            answers_fails _ (lt-leb _ _ (omega (arith, short, cut.2, long))) ∙ answers_passes 10 _ (eq-eqb _ _ (sym count_read ∙ counted)) ∙ answers_passes 9 _ (le-leb _ _ there)
+
+        pub items_there : size * count ≤ length items → section_refusal bytes at count size ≡ 0
+        items_there h = section_accepted (record { present = omega (arith, h, cut.2, long); counted = sym count_read ∙ counted })
 
 -- ---- the indices of a level
 

@@ -3,17 +3,24 @@ use mathlib.Core.Path.{◌≡◌, refl, sym, ap, ap₂, ◌∙◌}
 use mathlib.Core.List.{List, [], ◌∷◌, ◌++◌, map, append_assoc}
 use Prim.Native.Nat.{ℕ, zero, suc, ◌+◌, ◌-◌, ◌*◌, ◌/◌, ◌%◌, ◌≤◌, ◌<◌}
 use native.Mathlib.Nat.{not-suc-le-zero, add-zero}
+use native.Mathlib.Decide.{ℕ_discrete}
 use native.Mathlib.Omega.{arith}
 use lib.IntN.{ℤ}
 use lib.ListN.{length, get_or, drop}
+use denote.Param.Members.{Mut}
+use lib.Seq.{ext_get_or}
 use mir.Syntax.{w16}
 use mir.Val.{of_z, to_z}
 use Rattle.std.proofs.lemmas.List.{get_or-take, get_or-drop}
 use Rattle.std.specs.Simd.{first_chunks}
+use Rattle.std.specs.Array.{IsFromFnResult, IsFromFnResultFrom}
+use Rattle.std.specs.Fn.{Called}
+use Rattle.mathematics.specs.Definitions.Tables.{tabulate}
 use Rattle.mathematics.specs.Inner.Splices.{part}
 use Rattle.mathematics.proofs.Splices.{part_long, get_or-part}
+use Rattle.mathematics.proofs.Tables.{length-tabulate, get_or-tabulate}
 use Rattle.pyramid.specs.Definitions.Buffers.{Bytes}
-use Rattle.bale.specs.Definitions.Words.{le16, words, word_index, u16_at, words_at, indices_at}
+use Rattle.bale.specs.Definitions.Words.{le16, words, word_index, u16_at, u32_at, words_at, indices_at}
 use Rattle.bale.proofs.Stands.{Stands, stands_front, stands_back, stands_join}
 use Rattle.bale.proofs.WordLaws.{digits16, bytes16, index_read}
 
@@ -61,6 +68,45 @@ module _ {bytes : List ℕ} {at : ℕ} where
       each zero k = rw add-zero
       each (suc zero) k = refl
       each (suc (suc i)) k = absurd (omega arith)
+
+-- ---- an array that a closure makes, which no call of it changes
+
+module _ {F : Type 0} {g : Mut F (ℕ × Unit {0}) ℕ} (f : F) (h : ℕ → ℕ) (called : (k y : ℕ) (q : F) → Called g f (k, tt) y q → (q ≡ f) × (y ≡ h k)) (ys : List ℕ) where
+  made_from : (i n : ℕ) → IsFromFnResultFrom g f ys i n → (k : ℕ) → i ≤ k → k < i + n → get_or ys k 0 ≡ h k
+  made_from i zero all k l m = absurd (omega arith)
+  made_from i (suc n) (q, y, at, call, others) k l m =
+      let (same, is) = called i y q call in
+      elim (ℕ_discrete k i) [
+        | yes e ↦ rw e (at.1 0 ∙ is)
+        | no e ↦ made_from (i + 1) n (rw same at others) k (omega (arith, e)) (omega arith)
+      ]
+
+  pub made_by : {n : ℕ} → IsFromFnResult g f ys n → ys ≡ tabulate n h
+  made_by {n} made =
+      ext_get_or 0 _ _ (made.long ∙ sym (length-tabulate n h)) (λ k l. made_from 0 n made.each k (omega arith) (omega (arith, made.long)) ∙ sym (get_or-tabulate n h 0 k (omega (arith, made.long))))
+
+-- ---- a number of bytes taken one by one, and numbers after a place
+
+module _ (bytes : List ℕ) (at : ℕ) where
+  pub number16 : {two : List ℕ} → two ≡ tabulate 2 (λ i. get_or bytes (at + i) 0) → get_or two 0 0 + get_or two 1 0 * 256 ≡ u16_at bytes at
+  unfolding u16_at tabulate
+  number16 e = rw (e, add-zero) (omega arith)
+
+  pub number32 : {four : List ℕ} → four ≡ tabulate 4 (λ i. get_or bytes (at + i) 0)
+      → get_or four 0 0 + get_or four 1 0 * 256 + get_or four 2 0 * 65536 + get_or four 3 0 * 16777216 ≡ u32_at bytes at
+  unfolding u32_at tabulate
+  number32 e = rw (e, add-zero) (omega arith)
+
+  pub first_after : get_or (drop at bytes) 0 0 ≡ get_or bytes at 0
+  first_after = get_or-drop at bytes 0 0 ∙ rw add-zero
+
+  pub number32_after : u32_at (drop at bytes) 1 ≡ u32_at bytes (at + 1)
+  unfolding u32_at
+  number32_after =
+      let e : at + 2 ≡ at + 1 + 1 = omega arith in
+      let f : at + 3 ≡ at + 1 + 2 = omega arith in
+      let g : at + 4 ≡ at + 1 + 3 = omega arith in
+      rw (get_or-drop at bytes 1 0, get_or-drop at bytes 2 0, get_or-drop at bytes 3 0, get_or-drop at bytes 4 0, e, f, g)
 
 -- ---- a list of them
 

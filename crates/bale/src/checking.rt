@@ -15,17 +15,16 @@ use refusals::Refusal;
 
 // A section's count, and whether its items are all there.
 // Kept: a file and a place in it (places.rt).
-pub fn check_section(file: &[u8], at: usize, count: u16, size: usize) -> Result<(), Refusal>
-    requires { (at ≤ 500000) × (size ≤ 5) }
+pub fn check_section(file: &[u8], at: usize, count: u16, size: u8) -> Result<(), Refusal>
     ensures { result ≡ outcome (section_refusal file.now at count size) tt }
 {
-    if file.len() < at + 2 {
+    let Some((found, items)) = words::rest(file, at).split_first_chunk() else {
         return Err(Refusal::FileEnds);
-    }
-    if words::u16_at(file, at) != count {
+    };
+    if u16::from_le_bytes(*found) != count {
         return Err(Refusal::Count);
     }
-    if file.len() < at + 2 + size * count as usize {
+    if items.len() < size as usize * count as usize {
         return Err(Refusal::FileEnds);
     }
     Ok(())
@@ -70,7 +69,7 @@ impl ShapedFile<'_> {
 
     // Where a level's section ends, or the first rule that it breaks.
     fn check_level(&self, level: u16, at: usize) -> Result<usize, Refusal>
-        requires { (level ≤ self.now.shape.settings.depth) × (at ≤ 500000) }
+        requires { level ≤ self.now.shape.settings.depth }
         ensures { result ≡ outcome (level_section_refusal self.now.bytes.now self.now.shape.settings level at)
             (end_of at (nodes_at self.now.shape.settings level) 2) }
     {

@@ -1,6 +1,6 @@
 // What a file holds at which place: settings and readings, past the end too (document 01, "Bale file").
 // Kept: a file and a place in it, since a reader looks past the file's end too (places.rt).
-ghost use Rattle.std.specs.Prelude.{◌≡◌, ◌≤◌};
+ghost use Rattle.std.specs.Prelude.{◌≡◌};
 ghost use Rattle.refusals.specs.Definitions.Outcomes.{outcome};
 ghost use Rattle.mathematics.specs.Definitions.Tables.{tabulate};
 ghost use Rattle.bale.specs.Definitions.Reader.{slot_in, settings_in, probe_at};
@@ -39,11 +39,11 @@ pub fn settings_in(file: &[u8]) -> Settings
 }
 
 pub fn reading_at(file: &[u8], at: usize) -> Result<Reading, Refusal>
-    requires { at ≤ 999999 }
     ensures { result ≡ outcome (probe_at file.now at).refusal (probe_at file.now at).reading }
 {
+    let code = words::rest(file, at);
     Reading::try_from(Code {
-        kind: words::byte_at(file, at),
-        number: words::u32_at(file, at + 1),
+        kind: words::byte_at(code, 0),
+        number: words::u32_at(code, 1),
     })
 }

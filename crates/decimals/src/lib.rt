@@ -55,25 +55,22 @@ pub fn put_decimal(n: u32, buffer: &mut [u8], at: usize) -> Option<usize>
 }
 
 // The number of at most so many digits, and never more than nine, that begins at a place; `None` where no digit stands there.
+// Kept: a text and a place in it. Past the end no number stands, and that is told here and not by each caller.
 pub fn number_at(text: &[u8], at: usize, most: usize) -> Option<Number>
     ensures { result ≡ number_found (number_at text.now at most) }
 {
     let rest = text.get(at..)?;
-    let rest = rest.get(..most.min(9)).unwrap_or(rest);
-    let mut number = Number {
-        value: 0,
-        digits: 0,
-    };
-    for byte in rest {
-        if !byte.is_ascii_digit() {
-            break;
-        }
-        number.value = 10 * number.value + (byte - b'0') as u32;
-        number.digits += 1;
+    let front = rest.get(..most.min(9)).unwrap_or(rest);
+    let digits = front
+        .iter()
+        .position(|b| !b.is_ascii_digit())
+        .unwrap_or(front.len());
+    if digits == 0 {
+        return None;
     }
-    if number.digits == 0 {
-        None
-    } else {
-        Some(number)
+    let mut value = 0;
+    for byte in &front[..digits] {
+        value = 10 * value + (byte - b'0') as u32;
     }
+    Some(Number { value, digits })
 }

@@ -102,13 +102,15 @@ impl Bin {
 }
 
 // The index of a value at a bin, with a factor made elsewhere: it does not depend on the factor, which may be the bin's reciprocal or not.
+// Kept: a bin and a factor beside `Bin`, whose invariant is that the factor is the reciprocal, so that it can't be made of any other; this
+// function alone promises one index for every factor.
 pub fn bin_index(value: i32, bin: u16, factor: u32) -> i32
     ensures { result ≡ bin_index value bin }
 {
-    if is_reciprocal(bin, factor) {
-        let width = bin;
-        Bin { width, factor }.index(value)
+    let rule = if is_reciprocal(bin, factor) {
+        Bin { width: bin, factor }
     } else {
-        Bin::new(bin).index(value)
-    }
+        Bin::new(bin)
+    };
+    rule.index(value)
 }

@@ -1,7 +1,6 @@
 -- `decimals::digit_count` meets its contract: the hundreds have two digits less. Assumes nothing.
 use mathlib.Core.Path.{ap, ◌∙◌}
 use Prim.Native.Nat.{ℕ, ◌+◌, ◌/◌}
-use native.Mathlib.Omega.{arith}
 use borrow.Author.Rules.{rules}
 use Rattle.decimals.proofs.Counting.{count_one, count_two, count_hundreds, count_most, hundreds_less}
 use Rattle.decimals.proofs.+digit_count.Goals as goal
@@ -11,9 +10,6 @@ returns-then-n-lt10 t c = count_one c.args.n c.if-n-lt10.true
 
 pub returns-then-n-lt100 : goal.returns-then-n-lt100
 returns-then-n-lt100 t c = count_two c.args.n c.if-n-lt10.false c.if-n-lt100.true
-
-pub digit_count-requires : goal.digit_count-requires
-digit_count-requires t c = (omega (arith, hundreds_less c.args.n c.if-n-lt100.false), tt)
 
 pub overflow_add-result : goal.overflow_add-result
 overflow_add-result t c =

@@ -1,7 +1,6 @@
 -- `decimals::put_digits` meets its contract: the ones, then the digits of the tens before them. Assumes nothing.
 use Prim.Native.Nat.{◌+◌, ◌-◌, ◌%◌}
 use native.Mathlib.Omega.{arith}
-use borrow.Author.Rules.{rules}
 use lib.ListN.{length-set}
 use Rattle.decimals.proofs.Counting.{count_some, count_more, tens_less, put_one, put_more}
 use Rattle.decimals.proofs.+put_digits.Goals as goal
@@ -22,11 +21,6 @@ put_digits-requires t c =
     let less = tens_less a.n c.if-n-ge10.true in
     let same = length-set a.buffer.now (a.end - 1) (48 + a.n % 10) in
     (omega arith, (omega arith, omega arith))
-
-pub shape_of-buffer-then-n-ge10 : goal.shape_of-buffer-then-n-ge10
-shape_of-buffer-then-n-ge10 t c =
-    let a = c.args in
-    search (rules, length-set a.buffer.now (a.end - 1) (48 + a.n % 10))
 
 pub returns-then-n-ge10 : goal.returns-then-n-ge10
 returns-then-n-ge10 t c =

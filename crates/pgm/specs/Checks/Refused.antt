@@ -2,9 +2,9 @@
 -- answer hold 0. Assumes nothing.
 use Rattle.std.specs.Prelude.{◌≡◌, List, ℕ}
 use Rattle.pyramid.specs.Checks.Refused.{Refused}
-use Rattle.pgm.specs.Definitions.Calls.{SizeAnswer, size_answer, write_pgm, check_pgm, read_pgm}
+use Rattle.pgm.specs.Definitions.Calls.{PictureSizeAnswer, size_answer, write_pgm, check_pgm, read_pgm}
 
-abbrev pub NoSize : SizeAnswer → Type 0
+abbrev pub NoSize : PictureSizeAnswer → Type 0
 NoSize answer = (answer.columns ≡ 0) × (answer.rows ≡ 0)
 
 pub record RefusedPicturesHoldNothing : Type 0 where

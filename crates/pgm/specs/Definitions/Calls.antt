@@ -9,22 +9,22 @@ use Rattle.pgm.specs.Definitions.Files.{pgm_of, pgm_length}
 
 -- ---- what a call answers: a refusal's number, and numbers, which are 0 where it is not 0
 
-pub record SizeAnswer : Type 0 where
+pub record PictureSizeAnswer : Type 0 where
   pub refusal : ℕ
   pub columns : ℕ
   pub rows : ℕ
 
-abbrev pub picture_size : SizeAnswer → PictureSize
+abbrev pub picture_size : PictureSizeAnswer → PictureSize
 picture_size answer = record { columns = answer.columns; rows = answer.rows }
 
-pub record BytesAnswer : Type 0 where
+pub record SizeAnswer : Type 0 where
   pub refusal : ℕ
   pub size : ℕ
 
 -- ---- the readers
 
 pub record ReadOutcome : Type 0 where
-  pub answer : SizeAnswer
+  pub answer : PictureSizeAnswer
   pub picture : List ℕ
 
 module _ (bytes : List ℕ) where
@@ -42,11 +42,11 @@ module _ (bytes : List ℕ) where
   read_refusal room = first (check_refusal ∷ unless (eqb room (rows_in bytes * columns_in bytes)) 5 ∷ [])
 
   -- width and height, 0 where the file is refused
-  unfoldable pub size_in : ℕ → SizeAnswer
+  unfoldable pub size_in : ℕ → PictureSizeAnswer
   size_in refusal = record { refusal = refusal; columns = leaves refusal (columns_in bytes) 0; rows = leaves refusal (rows_in bytes) 0 }
 
   -- the reader that is lent no picture
-  unfoldable pub check_pgm : SizeAnswer
+  unfoldable pub check_pgm : PictureSizeAnswer
   check_pgm = size_in check_refusal
 
   unfoldable pub read_pgm : List ℕ → ReadOutcome
@@ -57,12 +57,12 @@ module _ (bytes : List ℕ) where
 -- ---- the writer
 
 pub record WriteOutcome : Type 0 where
-  pub answer : BytesAnswer
+  pub answer : SizeAnswer
   pub file : List ℕ
 
 module _ (columns rows : ℕ) where
   -- the size of a file of a picture of this size, whose number is looked for
-  unfoldable pub size_answer : BytesAnswer
+  unfoldable pub size_answer : SizeAnswer
   size_answer =
       let refusal = unless (size_ok columns rows) 1 in
       record { refusal = refusal; size = leaves refusal (pgm_length columns rows) 0 }

@@ -3,5 +3,5 @@ use mathlib.Core.Path.{refl}
 use Rattle.quantizer.proofs.Reciprocals.{factor_is}
 use Rattle.quantizer.proofs.bin_index.Goals as goal
 
-pub invariant_of-index : goal.invariant_of-index
-invariant_of-index c = factor_is _ _ (c.if-is_reciprocal.ensures.0 refl)
+pub invariant_of-rule : goal.invariant_of-rule
+invariant_of-rule c = factor_is _ _ (c.if-is_reciprocal.ensures.0 refl)

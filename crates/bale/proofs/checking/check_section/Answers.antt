@@ -1,21 +1,21 @@
 -- `bale::checking::check_section` meets its contract: test by test. Assumes nothing.
-use mathlib.Core.Path.{sym, ◌∙◌}
 use Rattle.refusals.specs.declared.Refusal.TheVariants.{FileEnds, Count}
 use Rattle.refusals.proofs.Outcomes.{refuses, accepts}
-use Rattle.bale.proofs.Sections.{section_accepted}
-use Rattle.bale.proofs.SectionTests.{count_absent, count_wrong, items_absent}
+use Rattle.bale.proofs.SectionTests.{count_absent, count_wrong, items_absent, items_there}
 use Rattle.bale.proofs.checking.check_section.Goals as goal
 
-pub returns-then-file-at : goal.returns-then-file-at
-returns-then-file-at c = refuses _ FileEnds (count_absent _ _ _ _ c.if-file-at.true)
+pub returns-in_default : goal.returns-in_default
+returns-in_default c = refuses _ FileEnds (count_absent _ _ _ _ c.rest.ensures c.in_default.ensures.cases)
 
-pub returns-then-u16_at-count : goal.returns-then-u16_at-count
-returns-then-u16_at-count c = refuses _ Count (count_wrong _ _ _ _ c.if-file-at.false (λ e. c.if-u16_at-count.true (c.u16_at.ensures ∙ e)))
+pub returns-then-from_le_bytes-count : goal.returns-then-from_le_bytes-count
+returns-then-from_le_bytes-count c =
+    refuses _ Count (count_wrong _ _ _ _ c.rest.ensures c.in-Some.ensures.cases c.from_le_bytes.ensures c.if-from_le_bytes-count.true)
 
-pub returns-then-file-at-2 : goal.returns-then-file-at-2
-returns-then-file-at-2 c =
-    refuses _ FileEnds (items_absent _ _ _ _ c.if-file-at.false (sym c.u16_at.ensures ∙ c.if-u16_at-count.false) c.if-file-at-2.true)
+pub returns-then-items-size : goal.returns-then-items-size
+returns-then-items-size c =
+    refuses _ FileEnds
+    (items_absent _ _ _ _ c.rest.ensures c.in-Some.ensures.cases c.from_le_bytes.ensures c.if-from_le_bytes-count.false c.if-items-size.true)
 
 pub returns : goal.returns
 returns c =
-    accepts _ (section_accepted (record { present = c.if-file-at-2.false; counted = sym c.u16_at.ensures ∙ c.if-u16_at-count.false }))
+    accepts _ (items_there _ _ _ _ c.rest.ensures c.in-Some.ensures.cases c.from_le_bytes.ensures c.if-from_le_bytes-count.false c.if-items-size.false)

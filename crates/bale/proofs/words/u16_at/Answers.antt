@@ -1,8 +1,7 @@
 -- `bale::words::u16_at` meets its contract: by the two bytes. Assumes nothing.
-use native.Mathlib.Omega.{arith}
-use Rattle.bale.specs.Definitions.Words.{u16_at}
+use mathlib.Core.Path.{◌∙◌}
+use Rattle.bale.proofs.WordLists.{number16}
 use Rattle.bale.proofs.words.u16_at.Goals as goal
 
 pub returns : goal.returns
-unfolding u16_at
-returns c = omega arith
+returns c = c.from_le_bytes.ensures ∙ number16 _ _ c.bytes_at.ensures

@@ -1,8 +1,7 @@
 -- `bale::words::u32_at` meets its contract: by the four bytes. Assumes nothing.
-use native.Mathlib.Omega.{arith}
-use Rattle.bale.specs.Definitions.Words.{u32_at}
+use mathlib.Core.Path.{◌∙◌}
+use Rattle.bale.proofs.WordLists.{number32}
 use Rattle.bale.proofs.words.u32_at.Goals as goal
 
 pub returns : goal.returns
-unfolding u32_at
-returns c = omega arith
+returns c = c.from_le_bytes.ensures ∙ number32 _ _ c.bytes_at.ensures

@@ -3,9 +3,6 @@ use mathlib.Core.Path.{refl}
 use Rattle.pgm.proofs.Passing.{passing_start, passing_next, passing_stop, passing_past}
 use Rattle.pgm.proofs.finding.digits_place.Goals as goal
 
-pub loop-i-init : goal.loop-i-init
-loop-i-init c = passing_start _
-
 pub loop-i-preserved : goal.loop-i-preserved
 loop-i-preserved c = passing_next c.loop-i.invariant c.loop-i-test.true c.is_passed.ensures c.if-not-is_passed.false c.is_inside_after-inside.ensures
 

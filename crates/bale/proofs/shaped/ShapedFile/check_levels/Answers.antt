@@ -5,7 +5,6 @@ use borrow.Author.Tests.{eq-eqb, ne_eqb}
 use Rattle.refusals.specs.declared.Refusal.TheVariants.{BytesAfter}
 use Rattle.refusals.proofs.Outcomes.{refuses, accepts, none, passed_on, value-is}
 use Rattle.pyramid.proofs.Refusals.{unless_passes, unless_fails}
-use Rattle.pyramid.proofs.Sizes.{nodes_most}
 use Rattle.bale.proofs.Checks.{levels_stop, levels_next, levels_end}
 use Rattle.bale.proofs.shaped.ShapedFile.check_levels.Goals as goal
 use Rattle.bale.proofs.shaped.ShapedFile.check_levels.Goals.{else-loop-level-test, then-loop-level-test+in_ok-at+else-level-gt0}
@@ -15,17 +14,12 @@ loop-level-preserved c =
     let shape = c.args.self.now.shape in
     let l = c.loop-level in
     let said = sym c.in_ok-at.ensures in
-    let end = value-is _ _ said in
-    let most = nodes_most shape.settings shape.shaped l.level (omega arith) in
-    record {
-      near = omega (arith, l.invariant.near, end, most);
-      left = l.invariant.left ∙ sym (levels_next c.args.self.now.bytes.now shape.settings l.at l.level (none _ _ said) (λ e. omega (arith, e))) ∙ rw end;
-    }
+    l.invariant ∙ sym (levels_next c.args.self.now.bytes.now shape.settings l.at l.level (none _ _ said) (λ e. omega (arith, e))) ∙ rw (value-is _ _ said)
 
 pub returns-in_err-at : goal.returns-in_err-at
 returns-in_err-at c =
     passed_on _ _ _ c.from_residual.result _ c.from_residual.ensures.1 c.in_err-at.ensures
-    (λ r. c.loop-level.invariant.left ∙ levels_stop _ _ _ _ r)
+    (λ r. c.loop-level.invariant ∙ levels_stop _ _ _ _ r)
 
 pub returns-then-self-at : goal.returns-then-self-at
 returns-then-self-at c =
@@ -35,7 +29,7 @@ returns-then-self-at c =
           let said = sym w.in_ok-at.ensures in
           let last = levels_end c.args.self.now.bytes.now c.args.self.now.shape.settings c.loop-level.at c.loop-level.level (none _ _ said) (omega arith) in
           let more = ne_eqb _ _ (λ e. c.if-self-at.true (e ∙ sym (w.at-is ∙ value-is _ _ said))) in
-          refuses _ BytesAfter (sym (c.loop-level.invariant.left ∙ last ∙ unless_fails 12 more))
+          refuses _ BytesAfter (sym (c.loop-level.invariant ∙ last ∙ unless_fails 12 more))
     ]
 
 pub returns : goal.returns
@@ -46,5 +40,5 @@ returns c =
           let said = sym w.in_ok-at.ensures in
           let last = levels_end c.args.self.now.bytes.now c.args.self.now.shape.settings c.loop-level.at c.loop-level.level (none _ _ said) (omega arith) in
           let end = eq-eqb _ _ (c.if-self-at.false ∙ w.at-is ∙ value-is _ _ said) in
-          accepts _ (c.loop-level.invariant.left ∙ last ∙ unless_passes 12 end)
+          accepts _ (c.loop-level.invariant ∙ last ∙ unless_passes 12 end)
     ]

@@ -1,13 +1,9 @@
 -- What the loop of `bale::shaped::ShapedFile::check_levels` keeps: the rules that are left say which number is answered.
 use mathlib.Core.Path.{◌≡◌}
-use Prim.Native.Nat.{◌+◌, ◌*◌, ◌≤◌}
 use Rattle.bale.specs.Definitions.Reader.{levels_place, level_sections_refusal}
 use Rattle.bale.proofs.shaped.ShapedFile.check_levels.Given as goal
 
 abbrev pub invariant-loop-level : goal.invariant-loop-level
 invariant-loop-level l =
-    record {
-      near : l.at + 40000 * l.level ≤ 400000;
-      left : level_sections_refusal l.self.bytes.now l.self.shape.settings l.depth (levels_place l.depth)
-          ≡ level_sections_refusal l.self.bytes.now l.self.shape.settings l.level l.at;
-    }
+    level_sections_refusal l.self.bytes.now l.self.shape.settings l.depth (levels_place l.depth)
+    ≡ level_sections_refusal l.self.bytes.now l.self.shape.settings l.level l.at
