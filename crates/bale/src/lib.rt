@@ -70,7 +70,7 @@ pub fn file_size(s: Settings) -> Result<usize, Refusal>
     ensures { result ≡ outcome (size_answer s).refusal (size_answer s).size }
 {
     let lawful = LawfulSettings::new(s)?;
-    Ok(writing::file_length(lawful.shape))
+    Ok(writing::file_length(lawful.shape()))
 }
 
 // Writes a file and answers its size. Refused: 1, 13, 14, 15, 2, 3, 4, 6, 8, 11.

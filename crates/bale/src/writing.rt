@@ -24,7 +24,7 @@ pub fn check(s: Settings, note: Note, levels: &[i16], room: usize) -> Result<Sha
     if !note.is_lawful() {
         return Err(Refusal::Reading);
     }
-    let shape = lawful.shape;
+    let shape = lawful.shape();
     if levels.len() != shape.nodes() as usize {
         return Err(Refusal::LevelsLength);
     }

@@ -1,4 +1,5 @@
 pub mod Settings
+pub mod Shapes
 pub mod Sizes
 pub mod Depth
 pub mod Weights

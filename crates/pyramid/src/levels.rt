@@ -31,7 +31,7 @@ impl LawfulSettings {
 
 impl Level {
     fn shape(self) -> Shape
-        ensures { result ≡ self.settings }
+        ensures { result.settings ≡ self.settings }
     {
         let settings = self.settings;
         Shape { settings }

@@ -5,34 +5,26 @@ ghost use Rattle.pyramid.specs.Definitions.Settings.{bins_ok};
 ghost use Rattle.pyramid.specs.Definitions.Refusals.{unless, first, shape_refusal, settings_refusal, values_ok};
 ghost use Rattle.pyramid.specs.Definitions.Sizes.{nodes_at, total};
 ghost use Rattle.pyramid.specs.Definitions.Answers.{size_of, level_size_answer};
+ghost use Rattle.pyramid.specs.Inner.Lawful.{Shaped};
 
 use crate::{LevelSize, Settings, checking, layering};
 use refusals::Refusal;
 use std::marker::Model;
 
-// Settings whose shape is lawful; contracts see the settings.
+// Settings whose shape is lawful.
+// Kept: a ghost field and no model, since a file holds its shape beside its bytes, and `?` passes on no such pair with a model in it.
 #[derive(Clone, Copy)]
 pub struct Shape {
     pub settings: Settings,
-}
-
-impl Model for Shape {
-    ghost use Rattle.pyramid.specs.declared.Settings.{Settings};
-    ghost use Rattle.pyramid.specs.Inner.Lawful.{Shaped};
-
-    ghost Value = { Settings };
-
-    ghost view = { λ a. a.settings };
-
-    ghost invariant = { λ a. Shaped a.settings };
-
-    ghost inverse = { λ s. record { settings = s } };
+    pub ghost shaped: { Shaped settings },
 }
 
 impl Shape {
+    ghost use Rattle.pyramid.specs.Definitions.Shapes.{shape_settings};
+
     // The settings, or the first rule that the shape breaks. The bins are not looked at.
     pub fn new(s: Settings) -> Result<Shape, Refusal>
-        ensures { result ≡ outcome (shape_refusal s) s }
+        ensures { shape_settings result ≡ outcome (shape_refusal s) s }
     {
         checking::check_shape(s)?;
         Ok(Shape { settings: s })
@@ -40,25 +32,26 @@ impl Shape {
 
     // T, the number of nodes of all levels.
     pub fn nodes(self) -> u16
-        ensures { result ≡ total self }
+        ensures { result ≡ total self.settings }
     {
         self.total() as u16
     }
 
     // The settings, where the bins are lawful too. Refused: 3.
     pub fn lawful(self) -> Result<LawfulSettings, Refusal>
-        ensures { result ≡ outcome (unless (bins_ok self) 3) self }
+        ensures { result ≡ outcome (unless (bins_ok self.settings) 3) self.settings }
     {
-        let settings = self.settings;
-        if !checking::bins_ok(settings) {
+        if !checking::bins_ok(self.settings) {
             return Err(Refusal::Bin);
         }
-        Ok(LawfulSettings { settings })
+        Ok(LawfulSettings {
+            settings: self.settings,
+        })
     }
 
     // The columns and rows of a level; 0 by 0 for a level above the depth.
     pub fn level_size(self, level: u16) -> LevelSize
-        ensures { result ≡ size_of (level_size_answer self level) }
+        ensures { result ≡ size_of (level_size_answer self.settings level) }
     {
         if self.settings.depth < level {
             return LevelSize {
@@ -74,7 +67,7 @@ impl Shape {
 
     // The number of nodes of a level; 0 for a level above the depth.
     pub fn level_nodes(self, level: u16) -> u16
-        ensures { result ≡ cond (leb level self.depth) (nodes_at self level) 0 }
+        ensures { result ≡ cond (leb level self.settings.depth) (nodes_at self.settings level) 0 }
     {
         if level <= self.settings.depth {
             self.nodes_at(level) as u16
@@ -114,7 +107,7 @@ impl LawfulSettings {
 
     // The shape of the settings.
     pub fn shape(self) -> Shape
-        ensures { result ≡ self }
+        ensures { result.settings ≡ self }
     {
         let settings = self.settings;
         Shape { settings }

@@ -1,5 +1,5 @@
 -- `pyramid::shapes::Shape::lawful` meets its contract: the shape is lawful, so the bins are what is left to look at. Assumes nothing.
-use mathlib.Core.Path.{subst}
+use mathlib.Core.Path.{◌≡◌, subst}
 use lib.Dec.{T}
 use Rattle.refusals.specs.declared.Refusal.TheVariants.{Bin}
 use Rattle.refusals.proofs.Outcomes.{refuses, accepts}
@@ -9,11 +9,11 @@ use Rattle.pyramid.proofs.shapes.Shape.lawful.Goals as goal
 
 pub returns-then-not-bins_ok : goal.returns-then-not-bins_ok
 unfolding unless
-returns-then-not-bins_ok c = refuses _ Bin (rw (← c.self.view_is, ← c.if-not-bins_ok.ensures))
+returns-then-not-bins_ok c = refuses _ Bin (rw (← c.if-not-bins_ok.ensures))
 
 pub invariant_of-result : goal.invariant_of-result
-invariant_of-result c = lawful _ c.self.invariant (subst T c.if-not-bins_ok.ensures tt)
+invariant_of-result c = lawful _ c.args.self.shaped (subst T c.if-not-bins_ok.ensures tt)
 
 pub returns : goal.returns
 unfolding unless
-returns c = rw (← c.self.view_is) (accepts _ (rw (← c.if-not-bins_ok.ensures)))
+returns c = accepts _ (rw (← c.if-not-bins_ok.ensures))

@@ -7,8 +7,8 @@ use Rattle.pyramid.proofs.shapes.Shape.level_size.Goals as goal
 
 pub returns-then-self-level : goal.returns-then-self-level
 unfolding level_size_answer leaves
-returns-then-self-level c = rw (← c.self.view_is, shape_accepted _ c.self.invariant, lt-leb _ _ c.if-self-level.true)
+returns-then-self-level c = rw (shape_accepted _ c.args.self.shaped, lt-leb _ _ c.if-self-level.true)
 
 pub returns : goal.returns
 unfolding level_size_answer leaves
-returns c = rw (c.columns_at.ensures.0, c.rows_at.ensures.0, ← c.self.view_is, shape_accepted _ c.self.invariant, le-leb _ _ c.if-self-level.false)
+returns c = rw (shape_accepted _ c.args.self.shaped, le-leb _ _ c.if-self-level.false, c.columns_at.ensures.0, c.rows_at.ensures.0)

@@ -14,12 +14,12 @@ with_level s (suc l) e f = rw (e, f) (add_comm _ _)
 pub overflow_add-t : goal.overflow_add-t
 overflow_add-t c =
     let l = c.loop-l.l in
-    omega (arith, with_level c.args.self l c.loop-l.invariant.1 c.nodes_at-t.ensures.0, nodes_to_room c.args.self c.loop-l.invariant.0 l)
+    omega (arith, with_level c.args.self.settings l c.loop-l.invariant c.nodes_at-t.ensures.0, nodes_to_room c.args.self.settings c.args.self.shaped l)
 
 pub loop-l-preserved : goal.loop-l-preserved
-loop-l-preserved c = (c.loop-l.invariant.0, rw add-one (with_level c.args.self c.loop-l.l c.loop-l.invariant.1 c.nodes_at-t.ensures.0))
+loop-l-preserved c = rw add-one (with_level c.args.self.settings c.loop-l.l c.loop-l.invariant c.nodes_at-t.ensures.0)
 
 pub returns-2 : goal.returns-2
 returns-2 c =
     let last : c.loop-l.l ≡ c.args.n = omega arith in
-    with_level c.args.self c.loop-l.l c.loop-l.invariant.1 c.nodes_at-t.ensures.0 ∙ ap (nodes_to c.args.self) last
+    with_level c.args.self.settings c.loop-l.l c.loop-l.invariant c.nodes_at-t.ensures.0 ∙ ap (nodes_to c.args.self.settings) last
