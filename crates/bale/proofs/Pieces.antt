@@ -1,31 +1,34 @@
 -- Pieces that are put one after the other, each where the one before it ends: the sections, the file, and the levels that are read.
 -- Assumes nothing.
 use mathlib.Core.Path.{◌≡◌, refl, sym, ap, ◌∙◌}
-use mathlib.Core.List.{List, [], ◌∷◌, ◌++◌, map, map-append, append_assoc, append-nil}
+use mathlib.Core.List.{List, [], ◌∷◌, ◌++◌, map, append_assoc, append-nil}
 use Prim.Native.Nat.{ℕ, zero, suc, ◌+◌, ◌-◌, ◌*◌, ◌≤◌, ◌<◌}
 use native.Mathlib.Numerals.{add-one}
 use native.Mathlib.Omega.{arith}
 use borrow.Rule.Slice.PartMut.{put_mid}
 use lib.IntN.{ℤ, pos}
-use lib.ListN.{length, get_or, take, drop, length-map, length-append}
+use lib.ListN.{length, get_or, take, drop, length-map, get_or-map}
+use mir.Syntax.{w16}
+use Rattle.std.specs.Int.{to_le_bytes}
 use lib.Seq.{length-take-le, take_all, take-suc}
 use Rattle.mathematics.specs.Inner.Splices.{splice, part}
 use Rattle.mathematics.specs.Definitions.Tables.{tabulate}
 use Rattle.mathematics.proofs.Tables.{tabulate-same, tabulate-map}
-use Rattle.mathematics.proofs.Splices.{length-splice, part_long, splice_nil, splice_append, splice_front, splice_whole}
+use Rattle.mathematics.proofs.Splices.{length-splice, part_long, splice_nil, splice_append, splice_prepend, splice_whole}
 use Rattle.pyramid.specs.declared.Settings.{Settings}
 use Rattle.pyramid.specs.Definitions.Settings.{bin}
 use Rattle.pyramid.specs.Definitions.Sizes.{nodes_at, total}
+use Rattle.pyramid.proofs.Sizes.{total-is}
 use Rattle.bale.specs.declared.Note.{Note}
 use Rattle.bale.specs.Definitions.Words.{le16, le32, words, index_word, word_index, u16_at, words_at, indices_at}
 use Rattle.bale.specs.Definitions.Readings.{reading_bytes}
 use Rattle.bale.specs.Definitions.Sections.{numbers_section}
 use Rattle.bale.specs.Definitions.Files.{shape_section, bins_from, bins_section, readings_section, level_section, level_sections, file_of, file_length}
-use Rattle.bale.specs.Definitions.Reader.{bins_place, readings_place, levels_place, levels_from}
-use Rattle.bale.proofs.WordLaws.{put_splice}
+use Rattle.bale.specs.Definitions.Reader.{levels_place, levels_from}
+use Rattle.bale.proofs.WordLaws.{put_splice, put16_front}
 use Rattle.bale.proofs.WordLists.{indices_part, length-words, words_append, length-words_at, get_or-words_at}
-use Rattle.bale.proofs.LevelTrips.{length_level, length_indices}
-use Rattle.bale.proofs.FileLengths.{length_shape, length_bins, length_readings, length_file, length-bins_from}
+use Rattle.bale.proofs.LevelTrips.{length_level, length_levels, length_indices}
+use Rattle.bale.proofs.FileLengths.{length_readings, length-bins_from}
 
 -- ---- a piece right after a piece
 
@@ -33,88 +36,121 @@ piece_next : {A : Type 0} (at : ℕ) (xs ys l : List A) {m n : List A} {k : ℕ}
     → n ≡ splice at (xs ++ ys) l
 piece_next at xs ys l p q e h = q ∙ rw (p, e) (splice_append at xs l (omega arith) ys)
 
--- ---- the sections
+-- a piece that is all of what it is put in
+whole_part : (xs l : List ℕ) {w : List ℕ} → w ≡ splice 0 xs l → length xs ≡ length l → w ≡ xs
+whole_part xs l p e = p ∙ splice_whole xs l e
 
-module _ (at : ℕ) (l : List ℕ) (room : at + 2 ≤ length l) {m n : List ℕ} where
-  numbers_next : {k : ℕ} (ns : List ℕ) → k ≡ length ns → m ≡ splice at (le16 k) l → n ≡ splice (at + 2) (words ns) m → n ≡ splice at (numbers_section ns) l
-  unfolding numbers_section le16
-  numbers_next {k} ns e p q = rw e at (piece_next at (le16 k) (words ns) l p q refl room)
+-- ---- numbers, one after the other: l became w, with i of them written
 
-  pub level_next : (ms : List ℤ) → m ≡ splice at (le16 (length ms)) l → n ≡ splice (at + 2) (words (map index_word ms)) m → n ≡ splice at (level_section ms) l
-  unfolding level_section
-  level_next ms = numbers_next (map index_word ms) (sym (length-map ms index_word))
+pub record Written (ns l w : List ℕ) (i : ℕ) : Type 0 where
+  pub bound : i ≤ length ns
+  pub is : w ≡ splice 0 (words (take i ns)) l
 
-  module _ (s : Settings) where
-    pub bins_next : m ≡ splice at (le16 (s.depth + 1)) l → n ≡ splice (at + 2) (words (bins_from s s.depth)) m → n ≡ splice at (bins_section s) l
-    unfolding bins_section
-    bins_next = numbers_next (bins_from s s.depth) (sym (length-bins_from s s.depth))
-
-    -- the bins of a level and of those below it
-    pub bins_more : (level : ℕ) → (level ≡ 0 → ⊥) → m ≡ splice at (le16 (bin s level)) l → n ≡ splice (at + 2) (words (bins_from s (level - 1))) m
-        → n ≡ splice at (words (bins_from s level)) l
-    unfolding words bins_from le16
-    bins_more zero some p q = absurd (some refl)
-    bins_more (suc level) some p q =
-        let e : suc level - 1 ≡ level = omega arith in
-        piece_next at (le16 (bin s (suc level))) (words (bins_from s level)) l p (rw e at q) refl room
-
-pub bins_last : (s : Settings) (level at : ℕ) (l : List ℕ) {m : List ℕ} → level ≡ 0 → m ≡ splice at (le16 (bin s level)) l → m ≡ splice at (words (bins_from s level)) l
-unfolding words bins_from le16
-bins_last s zero at l e p = p
-bins_last s (suc level) at l e p = absurd (omega arith)
-
-pub shape_next : (s : Settings) (l : List ℕ) {a b c d e : List ℕ} → 10 ≤ length l → a ≡ splice 0 (le16 4) l → b ≡ splice 2 (le16 s.columns) a
-    → c ≡ splice 4 (le16 s.rows) b → d ≡ splice 6 (le16 s.depth) c → e ≡ splice 8 (le16 s.kernel) d → e ≡ splice 0 (shape_section s) l
-unfolding shape_section numbers_section words le16
-shape_next s l room p q r t u =
-    let two = le16 4 ++ le16 s.columns in
-    let three = two ++ le16 s.rows in
-    let q₂ = piece_next 0 (le16 4) (le16 s.columns) l p q refl (omega arith) in
-    let r₂ = piece_next 0 two (le16 s.rows) l q₂ r refl (omega arith) in
-    let t₂ = piece_next 0 three (le16 s.depth) l r₂ t refl (omega arith) in
-    piece_next 0 (three ++ le16 s.depth) (le16 s.kernel) l t₂ u refl (omega arith)
-
-pub readings_next : (note : Note) (at : ℕ) (l : List ℕ) {a b c : List ℕ} → at + 12 ≤ length l → a ≡ splice at (le16 2) l
-    → b ≡ splice (at + 2) (reading_bytes note.before_drier) a → c ≡ splice (at + 7) (reading_bytes note.at_press) b → c ≡ splice at (readings_section note) l
-unfolding readings_section le16 le32
-readings_next note at l room p q r =
-    let drier = reading_bytes note.before_drier in
-    piece_next at (le16 2 ++ drier) (reading_bytes note.at_press) l (piece_next at (le16 2) drier l p q refl (omega arith)) r refl (omega arith)
-
-pub code_next : (kind number at : ℕ) (l : List ℕ) {m n : List ℕ} → at + 5 ≤ length l → m ≡ splice at (kind ∷ []) l → n ≡ splice (at + 1) (le32 number) m
-    → n ≡ splice at (kind ∷ le32 number) l
-code_next kind number at l room p q = piece_next at (kind ∷ []) (le32 number) l p q refl (omega arith)
-
--- ---- a loop that writes the words of indices: l became w, with i of them written
-
-pub record IndexWords (at : ℕ) (ms : List ℤ) (l w : List ℕ) (i : ℕ) : Type 0 where
-  pub bound : i ≤ length ms
-  pub long : length w ≡ length l
-  pub is : w ≡ splice at (words (map index_word (take i ms))) l
-
-module _ (at : ℕ) (ms : List ℤ) (l : List ℕ) where
-  pub words-start : IndexWords at ms l l 0
+module _ (ns l : List ℕ) where
+  pub written_start : Written ns l l 0
   unfolding words
-  words-start = record { bound = omega arith; long = refl; is = sym (splice_nil at l) }
+  written_start = record { bound = omega arith; is = sym (splice_nil 0 l) }
 
-  pub words_end : {w : List ℕ} {i : ℕ} → IndexWords at ms l w i → length ms ≤ i → w ≡ splice at (words (map index_word ms)) l
-  words_end {w} {i} r h = rw (take_all i ms h) at r.is
+  written_long : (i : ℕ) → i ≤ length ns → length (words (take i ns)) ≡ 2 * i
+  written_long i h = length-words (take i ns) ∙ simp (length-take-le i ns h)
 
-  words_long : (i : ℕ) → i ≤ length ms → length (words (map index_word (take i ms))) ≡ 2 * i
-  words_long i h = length-words (map index_word (take i ms)) ∙ simp (length-map, length-take-le i ms h)
+  module _ (long : length l ≡ 2 * length ns) where
+    pub written_next : {w v : List ℕ} {i n : ℕ} → Written ns l w i → i < length ns → n ≡ get_or ns i 0 → v ≡ splice (2 * i) (le16 n) w → Written ns l v (i + 1)
+    unfolding words le16
+    written_next {w} {v} {i} {n} r h e q =
+        let more : words (take i ns) ++ le16 n ≡ words (take (i + 1) ns) = rw (e, add-one, take-suc ns i 0, words_append) (simp append-nil) in
+        let place = written_long i r.bound in
+        record { bound = omega arith; is = rw more at (piece_next 0 (words (take i ns)) (le16 n) l r.is q (omega (arith, place)) (omega arith)) }
 
-  pub words-next : {w v : List ℕ} {i : ℕ} {m : ℤ} → IndexWords at ms l w i → at + 2 * length ms ≤ length l → i < length ms → m ≡ get_or ms i (pos 0)
-      → v ≡ splice (at + 2 * i) (le16 (index_word m)) w → IndexWords at ms l v (i + 1)
-  unfolding words le16
-  words-next {w} {v} {i} {m} r room h e q =
-      let more : words (map index_word (take i ms)) ++ le16 (index_word m) ≡ words (map index_word (take (i + 1) ms)) =
-      rw (e, add-one, take-suc ms i (pos 0), map-append, words_append) (simp append-nil)
-      in
-      let is : v ≡ splice at (words (map index_word (take (i + 1) ms))) l =
-      rw more at (piece_next at (words (map index_word (take i ms))) (le16 (index_word m)) l r.is q (omega (arith, words_long i r.bound)) (omega arith))
-      in
-      let long : length v ≡ length l = rw is (length-splice at (words (map index_word (take (i + 1) ms))) l (omega (arith, words_long (i + 1) (omega arith)))) in
-      record { bound = omega arith; long = long; is = is }
+    pub written_end : {w : List ℕ} {i : ℕ} → Written ns l w i → length ns ≤ i → w ≡ words ns
+    written_end {w} {i} r h = whole_part (words ns) l (rw (take_all i ns h) at r.is) (length-words ns ∙ sym long)
+
+-- ---- the sections of numbers: a count, and then these
+
+pub shape_whole : (s : Settings) {w : List ℕ} → w ≡ words (4 ∷ s.columns ∷ s.rows ∷ s.depth ∷ s.kernel ∷ []) → w ≡ shape_section s
+unfolding shape_section numbers_section words
+shape_whole s p = p
+
+pub numbers_whole : (k : ℕ) (ns : List ℕ) {count w : List ℕ} → k ≡ length ns → count ≡ le16 k → w ≡ words ns → count ++ w ≡ numbers_section ns
+unfolding numbers_section
+numbers_whole k ns e p q = rw (p, q, e)
+
+-- the bins of the levels below one
+pub bins_below : Settings → ℕ → List ℕ
+bins_below s zero = []
+bins_below s (suc l) = bins_from s l
+
+length_below : (s : Settings) (level : ℕ) → length (bins_below s level) ≡ level
+unfolding bins_below
+length_below s zero = refl
+length_below s (suc l) = length-bins_from s l ∙ omega arith
+
+-- a loop that writes the bins, level 0 first, each before the one written last
+pub record Bins (s : Settings) (l w : List ℕ) (level : ℕ) : Type 0 where
+  pub is : w ≡ splice (2 * (s.depth + 1 - level)) (words (bins_below s level)) l
+
+module _ (s : Settings) (l : List ℕ) where
+  pub bins_start : Bins s l l 0
+  unfolding bins_below words
+  bins_start = record { is = sym (splice_nil _ l) }
+
+  module _ (long : length l ≡ 2 * (s.depth + 1)) where
+    pub bins_more : {w v : List ℕ} {level : ℕ} → Bins s l w level → level < s.depth + 1 → v ≡ splice (2 * (s.depth - level)) (le16 (bin s level)) w
+        → Bins s l v (level + 1)
+    unfolding words le16 bins_below bins_from
+    bins_more {w} {v} {level} r h q =
+        let at = 2 * (s.depth - level) in
+        let e : 2 * (s.depth + 1 - level) ≡ at + 2 = omega arith in
+        let f : at ≡ 2 * (s.depth + 1 - (level + 1)) = omega arith in
+        let n = length-words (bins_below s level) ∙ ap (λ (i : ℕ). 2 * i) (length_below s level) in
+        let more : le16 (bin s level) ++ words (bins_below s level) ≡ words (bins_below s (level + 1)) = added level in
+        let both : splice at (le16 (bin s level)) w ≡ splice at (le16 (bin s level) ++ words (bins_below s level)) l =
+        rw (r.is, e) (splice_prepend at (le16 (bin s level)) (words (bins_below s level)) l (omega (arith, n)))
+        in
+        record { is = q ∙ both ∙ rw (more, f) }
+      where
+        added : (level : ℕ) → le16 (bin s level) ++ words (bins_below s level) ≡ words (bins_below s (level + 1))
+        added zero = refl
+        added (suc level) = rw add-one refl
+
+    pub bins_end : {w : List ℕ} {level : ℕ} → Bins s l w level → s.depth + 1 ≤ level → level ≤ s.depth + 1 → w ≡ words (bins_from s s.depth)
+    unfolding bins_below
+    bins_end {w} {level} r h k =
+        let e : level ≡ suc s.depth = omega arith in
+        let f : 2 * (s.depth + 1 - level) ≡ 0 = omega arith in
+        let n = length-words (bins_from s s.depth) ∙ ap (λ (i : ℕ). 2 * i) (length-bins_from s s.depth) in
+        whole_part (words (bins_from s s.depth)) l (r.is ∙ rw (f, e)) (n ∙ sym long)
+
+pub bins_whole : (s : Settings) {count w : List ℕ} → count ≡ le16 (s.depth + 1) → w ≡ words (bins_from s s.depth) → count ++ w ≡ bins_section s
+unfolding bins_section
+bins_whole s = numbers_whole (s.depth + 1) (bins_from s s.depth) (sym (length-bins_from s s.depth))
+
+-- the indices of a level
+module _ (ms : List ℤ) where
+  pub index_at : (i : ℕ) → index_word (get_or ms i (pos 0)) ≡ get_or (map index_word ms) i 0
+  unfolding index_word
+  index_at i = sym (get_or-map index_word ms i (pos 0))
+
+  pub level_whole : {count w : List ℕ} → count ≡ le16 (length ms) → w ≡ words (map index_word ms) → count ++ w ≡ level_section ms
+  unfolding level_section
+  level_whole = numbers_whole (length ms) (map index_word ms) (sym (length-map ms index_word))
+
+-- the readings
+pub readings_whole : (note : Note) (l : List ℕ) {count drier press : List ℕ} → length l ≡ 12 → count ≡ to_le_bytes w16 2
+    → drier ≡ reading_bytes note.before_drier → press ≡ reading_bytes note.at_press
+    → let b = put_mid 2 5 (count ++ drop 2 l) drier in put_mid 7 (length b - 7) b press ≡ readings_section note
+unfolding readings_section le16 le32
+readings_whole note l {count} {drier} {press} long p q r =
+    let a = count ++ drop 2 l in
+    let b = put_mid 2 5 a drier in
+    let front = le16 2 ++ reading_bytes note.before_drier in
+    let first : b ≡ splice 2 (reading_bytes note.before_drier) a = rw q (put_splice 2 5 (reading_bytes note.before_drier) a refl) in
+    let two = piece_next 0 (le16 2) (reading_bytes note.before_drier) l (put16_front 2 l p) first refl (omega arith) in
+    let same : length b ≡ 12 = ap length two ∙ length-splice 0 front l (omega arith) ∙ long in
+    let second : put_mid 7 (length b - 7) b press ≡ splice 7 (reading_bytes note.at_press) b =
+    rw r (put_splice 7 (length b - 7) (reading_bytes note.at_press) b (omega (arith, same)))
+    in
+    whole_part (readings_section note) l (piece_next 0 front (reading_bytes note.at_press) l two second refl (omega arith)) (length_readings note ∙ sym long)
 
 -- ---- the sections of a level and of those below it, whose indices stand from a place on
 
@@ -140,27 +176,27 @@ module _ (s : Settings) (l at : ℕ) (ms : List ℤ) (file : List ℕ) {mid : Li
       rw (sections_suc s ms l some) at
       (piece_next at (level_section here) (level_sections s (l - 1) (drop (nodes_at s l) ms)) file p refl (omega (arith, length_level here)) room)
 
+-- a level's section, put in its part of the sections
+pub level_put : (here ms : List ℤ) (at : ℕ) (l : List ℕ) {w : List ℕ} → w ≡ level_section here → here ≡ ms
+    → put_mid at (at + 2 + 2 * length here - at) l w ≡ splice at (level_section ms) l
+level_put here ms at l p e = rw (p, ← e) (put_splice at (at + 2 + 2 * length here - at) (level_section here) l (omega (arith, length_level here)))
+
+pub level_put_long : (ms : List ℤ) (at : ℕ) (l : List ℕ) {w : List ℕ} → w ≡ splice at (level_section ms) l → at + 2 + 2 * length ms ≤ length l → length w ≡ length l
+level_put_long ms at l p room = rw p (length-splice at (level_section ms) l (omega (arith, length_level ms)))
+
+pub sections_whole : (s : Settings) (levels : List ℤ) (l : List ℕ) {w : List ℕ} → length levels ≡ total s → levels_place s.depth + length l ≡ file_length s
+    → w ≡ splice 0 (level_sections s s.depth levels) l → w ≡ level_sections s s.depth levels
+unfolding file_length
+sections_whole s levels l e long p =
+    let t = total-is s in
+    whole_part (level_sections s s.depth levels) l p (length_levels s s.depth levels (e ∙ t) ∙ omega (arith, long, t))
+
 -- ---- the file
 
-pub file_next : (s : Settings) (note : Note) (levels : List ℤ) (l : List ℕ) {a b c d : List ℕ} → length levels ≡ total s → file_length s ≤ length l
-    → a ≡ splice 0 (shape_section s) l → b ≡ splice bins_place (bins_section s) a → c ≡ splice (readings_place s.depth) (readings_section note) b
-    → d ≡ splice (levels_place s.depth) (level_sections s s.depth levels) c → d ≡ file_of s note levels ++ drop (file_length s) l
-file_next s note levels l long room p q r t =
-    let shape = shape_section s in
-    let bins = bins_section s in
-    let readings = readings_section note in
-    let below = level_sections s s.depth levels in
-    let e = length_shape s in
-    let f = length_bins s in
-    let g = length_readings note in
-    let m = length-append shape bins in
-    let n = length-append (shape ++ bins) readings in
-    let k : 24 + 4 * (s.depth + 1) ≤ length l = unfold file_length in omega arith in
-    let whole : ((shape ++ bins) ++ readings) ++ below ≡ file_of s note levels = unfold file_of in simp append_assoc in
-    let two = piece_next 0 shape bins l p q (omega arith) (omega arith) in
-    let three = piece_next 0 (shape ++ bins) readings l two r (omega arith) (omega arith) in
-    rw whole at (piece_next 0 ((shape ++ bins) ++ readings) below l three t (omega arith) (omega arith))
-    ∙ splice_front (file_of s note levels) l ∙ rw (length_file s note levels long)
+pub file_whole : (s : Settings) (note : Note) (levels : List ℤ) (e : List ℕ) {a b c d : List ℕ} → a ≡ shape_section s → b ≡ bins_section s → c ≡ readings_section note
+    → d ≡ level_sections s s.depth levels → (((a ++ b) ++ c) ++ d) ++ e ≡ file_of s note levels ++ e
+unfolding file_of
+file_whole s note levels e p q r t = rw (p, q, r, t) (simp append_assoc)
 
 -- ---- indices that are read
 

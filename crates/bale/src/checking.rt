@@ -14,7 +14,7 @@ use pyramid::IndexRange;
 use refusals::Refusal;
 
 // A section's count, and whether its items are all there.
-// Kept: a file and a place in it (places.rt).
+// Kept: a file and a place in it, past its end too (places.rt).
 pub fn check_section(file: &[u8], at: usize, count: u16, size: u8) -> Result<(), Refusal>
     ensures { result ≡ outcome (section_refusal file.now at count size) tt }
 {

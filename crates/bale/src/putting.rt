@@ -1,96 +1,84 @@
-// The sections of a file, one after the other, into the writer's buffer (document 01, "Bale file").
-// Kept: a buffer and a place in it (places.rt).
-ghost use Rattle.std.specs.Prelude.{◌≡◌, ◌++◌, ◌∷◌, map, ◌+◌, ◌*◌, ◌≤◌, T, length, drop};
-ghost use Rattle.mathematics.specs.Inner.Splices.{splice};
+// The sections of a file, each in the part of the writer's buffer that is its own (document 01, "Bale file").
+ghost use Rattle.std.specs.Prelude.{◌≡◌, ◌++◌, ◌∷◌, ◌+◌, ◌*◌, ◌≤◌, ◌<◌, T, length, drop};
 ghost use Rattle.pyramid.specs.Definitions.Sizes.{total};
-ghost use Rattle.bale.specs.Definitions.Words.{le32, words, index_word};
+ghost use Rattle.bale.specs.Definitions.Words.{le32};
 ghost use Rattle.bale.specs.Definitions.Readings.{note_ok};
 ghost use Rattle.bale.specs.Definitions.Files.{shape_section, bins_section, readings_section, level_section, level_sections, file_of, file_length};
-ghost use Rattle.bale.specs.Definitions.Reader.{bins_place, readings_place, levels_place};
+ghost use Rattle.bale.specs.Definitions.Reader.{levels_place};
 ghost use Rattle.bale.specs.Definitions.Calls.{write_refusal};
 
-use crate::{Code, Note, places, words};
+use crate::{Code, Note, places, writing};
 use pyramid::{Settings, Shape};
 
-fn put_shape(s: Settings, file: &mut [u8])
-    requires { 10 ≤ length file.old }
-    ensures { file.new ≡ splice 0 (shape_section s) file.old }
+fn put_shape(s: Settings, section: &mut [u8])
+    requires { length section.old ≡ 10 }
+    ensures { section.new ≡ shape_section s }
 {
-    words::put_u16(file, 0, 4);
-    words::put_u16(file, 2, s.columns);
-    words::put_u16(file, 4, s.rows);
-    words::put_u16(file, 6, s.depth);
-    words::put_u16(file, 8, s.kernel);
+    let numbers = [4, s.columns, s.rows, s.depth, s.kernel];
+    for (i, n) in numbers.iter().enumerate() {
+        section[2 * i..2 * i + 2].copy_from_slice(&n.to_le_bytes());
+    }
 }
 
-// The bins, level N first.
-fn put_bins(shape: Shape, file: &mut [u8])
-    requires { readings_place shape.settings.depth ≤ length file.old }
-    ensures { file.new ≡ splice bins_place (bins_section shape.settings) file.old }
+// The bins, level N first, so that level 0 stands last.
+fn put_bins(shape: Shape, section: &mut [u8])
+    requires { length section.old ≡ 2 + 2 * (shape.settings.depth + 1) }
+    ensures { section.new ≡ bins_section shape.settings }
 {
-    let depth = shape.settings.depth;
     let bins = shape.settings.bins;
-    let mut at = places::BINS;
-    words::put_u16(file, at, depth + 1);
-    for level in (0..=depth).rev() {
-        at += 2;
-        words::put_u16(file, at, bins[level as usize]);
+    let depth = shape.settings.depth;
+    let (count, words) = section.split_at_mut(2);
+    count.copy_from_slice(&(depth + 1).to_le_bytes());
+    for level in 0..depth + 1 {
+        let at = 2 * (depth - level) as usize;
+        words[at..at + 2].copy_from_slice(&bins[level as usize].to_le_bytes());
     }
 }
 
-// The five bytes of a kind and a number.
-fn put_code(code: Code, file: &mut [u8], at: usize)
-    requires { at + 5 ≤ length file.old }
-    ensures { file.new ≡ splice at (code.kind ∷ le32 code.number) file.old }
+// A kind and a number.
+fn put_code(code: Code, bytes: &mut [u8])
+    requires { length bytes.old ≡ 5 }
+    ensures { bytes.new ≡ code.kind ∷ le32 code.number }
 {
-    words::put(file, at, &[code.kind]);
-    words::put_u32(file, at + 1, code.number);
+    bytes[0] = code.kind;
+    bytes[1..].copy_from_slice(&code.number.to_le_bytes());
 }
 
-fn put_readings(note: Note, file: &mut [u8], at: usize)
+fn put_readings(note: Note, section: &mut [u8])
     requires lawful { T (note_ok note) }
-    requires at_in_bounds { at + 12 ≤ length file.old }
-    ensures { file.new ≡ splice at (readings_section note) file.old }
+    requires long { length section.old ≡ 12 }
+    ensures { section.new ≡ readings_section note }
 {
-    words::put_u16(file, at, 2);
-    put_code(note.before_drier.code(), file, at + 2);
-    put_code(note.at_press.code(), file, at + 7);
-}
-
-// The numbers of indices.
-fn put_indices(indices: &[i16], file: &mut [u8], at: usize)
-    requires { at + 2 * length indices.now ≤ length file.old }
-    ensures { file.new ≡
-        splice at (words (map index_word indices.now)) file.old }
-{
-    for (i, index) in indices.iter().enumerate() {
-        words::put_index(file, at + 2 * i, *index);
-    }
+    section[..2].copy_from_slice(&2u16.to_le_bytes());
+    put_code(note.before_drier.code(), &mut section[2..7]);
+    put_code(note.at_press.code(), &mut section[7..]);
 }
 
 // A level's section.
-fn put_level(indices: &[i16], file: &mut [u8], at: usize)
-    requires { (length indices.now ≤ 16641) × (at + 2 + 2 * length indices.now ≤ length file.old) }
-    ensures { file.new ≡ splice at (level_section indices.now) file.old }
+fn put_level(indices: &[i16], section: &mut [u8])
+    requires { (length indices.now < 65536) × (length section.old ≡ 2 + 2 * length indices.now) }
+    ensures { section.new ≡ level_section indices.now }
 {
-    words::put_u16(file, at, indices.len() as u16);
-    put_indices(indices, file, at + 2);
+    let (count, words) = section.split_at_mut(2);
+    count.copy_from_slice(&(indices.len() as u16).to_le_bytes());
+    for (i, index) in indices.iter().enumerate() {
+        words[2 * i..2 * i + 2].copy_from_slice(&index.to_le_bytes());
+    }
 }
 
 // The sections of all levels, level N first.
-fn put_levels(shape: Shape, levels: &[i16], file: &mut [u8])
+fn put_levels(shape: Shape, levels: &[i16], sections: &mut [u8])
     requires levels_length { length levels.now ≡ total shape.settings }
-    requires room { file_length shape.settings ≤ length file.old }
-    ensures { file.new ≡
-        splice (levels_place shape.settings.depth) (level_sections shape.settings shape.settings.depth levels.now) file.old }
+    requires long { levels_place shape.settings.depth + length sections.old ≡ file_length shape.settings }
+    ensures { sections.new ≡ level_sections shape.settings shape.settings.depth levels.now }
 {
-    let depth = shape.settings.depth;
-    let mut at = places::levels(depth);
+    let mut at = 0;
     let mut left = levels;
-    for level in (0..=depth).rev() {
+    for level in (0..=shape.settings.depth).rev() {
         let (here, below) = left.split_at(shape.level_nodes(level) as usize);
-        put_level(here, file, at);
-        at += 2 + 2 * here.len();
+        let end = at + 2 + 2 * here.len();
+        put_level(here, &mut sections[at..end]);
+        at = end;
         left = below;
     }
 }
@@ -101,8 +89,13 @@ pub fn put_file(shape: Shape, note: Note, levels: &[i16], file: &mut [u8])
     ensures { file.new ≡
         file_of shape.settings note levels.now ++ drop (file_length shape.settings) file.old }
 {
-    put_shape(shape.settings, file);
-    put_bins(shape, file);
-    put_readings(note, file, places::readings(shape.settings.depth));
-    put_levels(shape, levels, file);
+    let depth = shape.settings.depth;
+    let (file, _) = file.split_at_mut(writing::file_length(shape));
+    let (front, sections) = file.split_at_mut(places::levels(depth));
+    let (front, readings) = front.split_at_mut(places::readings(depth));
+    let (start, bins) = front.split_at_mut(places::BINS);
+    put_shape(shape.settings, start);
+    put_bins(shape, bins);
+    put_readings(note, readings);
+    put_levels(shape, levels, sections);
 }

@@ -1,23 +1,19 @@
--- `bale::putting::put_bins` meets its contract: its count, then bin by bin. Assumes nothing.
-use mathlib.Core.Path.{refl, ◌∙◌}
-use Prim.Native.Nat.{◌+◌}
+-- `bale::putting::put_bins` meets its contract: its count, then bin by bin, level 0 first. Assumes nothing.
+use mathlib.Core.Path.{◌∙◌}
 use native.Mathlib.Omega.{arith}
-use Rattle.bale.proofs.Pieces.{bins_next, bins_more, bins_last}
+use Rattle.bale.proofs.WordLaws.{low_bytes16, put16}
+use Rattle.bale.proofs.Pieces.{bins_start, bins_more, bins_end, bins_whole}
 use Rattle.bale.proofs.putting.put_bins.Goals as goal
+
+pub loop-level-init : goal.loop-level-init
+loop-level-init c = bins_start _ _
 
 pub loop-level-preserved : goal.loop-level-preserved
 loop-level-preserved c =
-    let s = c.args.shape.settings in
-    let l = c.loop-level in
-    let next = bins_more (l.at + 2) l.file (omega arith) s l.level (λ e. omega (arith, e)) c.put_u16-in-loop-level.ensures refl in
-    record { place = omega arith; left = next ∙ l.invariant.left }
+    let put = put16 _ _ c.loop-level.words (c.copy_from_slice-in-loop-level.ensures.after ∙ c.to_le_bytes-in-loop-level.ensures) (omega arith) in
+    bins_more c.args.shape.settings c.split_at_mut-count.result.1.now (omega (arith, c.requires, c.split_at_mut-count.ensures.back_len)) c.loop-level.invariant c.loop-level-test.true put
 
 pub returns : goal.returns
-returns c = absurd (omega (arith, c.loop-level-test.false))
-
-pub returns-2 : goal.returns-2
-returns-2 c =
-    let s = c.args.shape.settings in
-    let l = c.loop-level in
-    let all = bins_last s l.level (l.at + 2) l.file (omega arith) c.put_u16-in-loop-level.ensures ∙ l.invariant.left in
-    bins_next 10 c.args.file.now (omega arith) s c.put_u16.ensures all
+returns c =
+    bins_whole c.args.shape.settings (c.copy_from_slice.ensures.after ∙ c.to_le_bytes.ensures ∙ low_bytes16 _)
+    (bins_end c.args.shape.settings c.split_at_mut-count.result.1.now (omega (arith, c.requires, c.split_at_mut-count.ensures.back_len)) c.loop-level.invariant (omega (arith, c.loop-level-test.false)) (omega arith))

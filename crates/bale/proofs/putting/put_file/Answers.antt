@@ -2,28 +2,24 @@
 use native.Mathlib.Omega.{arith}
 use Rattle.bale.specs.Definitions.Files.{file_length}
 use Rattle.bale.proofs.AcceptedFiles.{accepted_writing}
-use Rattle.bale.proofs.Pieces.{file_next}
+use Rattle.bale.proofs.Pieces.{file_whole}
 use Rattle.bale.proofs.putting.put_file.Goals as goal
 
-pub put_shape-requires : goal.put_shape-requires
-unfolding file_length
-put_shape-requires c = omega (arith, (accepted_writing _ _ _ _ c.requires).fits)
+pub split_at_mut-file-requires : goal.split_at_mut-file-requires
+split_at_mut-file-requires c = omega (arith, c.file_length.ensures, (accepted_writing _ _ _ _ c.requires).fits)
 
-pub put_bins-requires : goal.put_bins-requires
+pub split_at_mut-front-requires : goal.split_at_mut-front-requires
 unfolding file_length
-put_bins-requires c = omega (arith, (accepted_writing _ _ _ _ c.requires).fits)
+split_at_mut-front-requires c = omega (arith, c.levels.ensures, c.file_length.ensures, c.split_at_mut-file.ensures.front_len)
 
-pub put_readings-requires : goal.put_readings-requires
-unfolding file_length
-put_readings-requires c =
-    let w = accepted_writing _ _ _ _ c.requires in record { lawful = w.noted; at_in_bounds = omega (arith, c.readings.ensures, w.fits) }
+pub put_readings-requires-clause-lawful : goal.put_readings-requires-clause-lawful
+put_readings-requires-clause-lawful c = (accepted_writing _ _ _ _ c.requires).noted
 
-pub put_levels-requires : goal.put_levels-requires
-put_levels-requires c = let w = accepted_writing _ _ _ _ c.requires in record { levels_length = w.long; room = omega (arith, w.fits) }
+pub put_levels-requires-clause-levels_length : goal.put_levels-requires-clause-levels_length
+put_levels-requires-clause-levels_length c = (accepted_writing _ _ _ _ c.requires).long
 
 pub returns : goal.returns
 returns c =
-    let w = accepted_writing _ _ _ _ c.requires in
     let a = c.args in
-    file_next a.shape.settings a.note a.levels.now a.file.now w.long w.fits c.put_shape.ensures
-    c.put_bins.ensures (rw c.readings.ensures at c.put_readings.ensures) c.put_levels.ensures
+    rw (c.split_at_mut-file.ensures.back, c.file_length.ensures)
+    (file_whole a.shape.settings a.note a.levels.now _ c.put_shape.ensures c.put_bins.ensures c.put_readings.ensures c.put_levels.ensures)

@@ -2,7 +2,7 @@
 use mathlib.Core.Path.{◌∙◌}
 use Rattle.mathematics.proofs.Tests.{both}
 use Rattle.bale.specs.Definitions.Readings.{reading_ok, note_ok}
-use Rattle.bale.proofs.Pieces.{readings_next}
+use Rattle.bale.proofs.Pieces.{readings_whole}
 use Rattle.bale.proofs.putting.put_readings.Goals as goal
 
 pub code-requires : goal.code-requires
@@ -15,6 +15,6 @@ code-requires-2 c = (both (reading_ok c.args.note.before_drier) (reading_ok c.ar
 
 pub returns : goal.returns
 returns c =
-    readings_next c.args.note c.args.at c.args.file.now c.requires.at_in_bounds c.put_u16.ensures
+    readings_whole c.args.note c.args.section.now c.requires.long (c.copy_from_slice.ensures.after ∙ c.to_le_bytes.ensures)
     (c.put_code.ensures ∙ rw c.code.ensures)
     (c.put_code-2.ensures ∙ rw c.code-2.ensures)
