@@ -22,13 +22,13 @@ returns-then-not-is_lawful c = refuses _ Reading (note_refused _ _ _ _ (none _ _
 pub returns-then-levels-nodes : goal.returns-then-levels-nodes
 returns-then-levels-nodes c =
     let e = sym c.in_ok-lawful.ensures in
-    let t = c.nodes.ensures ∙ ap total (value-is _ _ e) in
+    let t = c.nodes.ensures ∙ ap total (c.shape-shape.ensures ∙ value-is _ _ e) in
     refuses _ LevelsLength (length_refused _ _ _ _ (none _ _ e) c.if-not-is_lawful.ensures (λ long. c.if-levels-nodes.true (long ∙ sym t)))
 
 pub returns-then-room-file_length : goal.returns-then-room-file_length
 returns-then-room-file_length c =
     let e = sym c.in_ok-lawful.ensures in
-    let s = value-is _ _ e in
+    let s = c.shape-shape.ensures ∙ value-is _ _ e in
     let long = c.if-levels-nodes.false ∙ c.nodes.ensures ∙ ap total s in
     let short = rw (c.file_length.ensures, s) at c.if-room-file_length.true in
     refuses _ FileLength (room_refused _ _ _ _ (none _ _ e) c.if-not-is_lawful.ensures long short)
@@ -36,7 +36,7 @@ returns-then-room-file_length c =
 pub returns-in_err-check_levels : goal.returns-in_err-check_levels
 returns-in_err-check_levels c =
     let e = sym c.in_ok-lawful.ensures in
-    let s = value-is _ _ e in
+    let s = c.shape-shape.ensures ∙ value-is _ _ e in
     let long = c.if-levels-nodes.false ∙ c.nodes.ensures ∙ ap total s in
     let fits = rw (c.file_length.ensures, s) at c.if-room-file_length.false in
     let (r, was, from) = err_from_is_err_and c.from_residual-in_err-check_levels.result c.from_residual-in_err-check_levels.ensures.1 in
@@ -46,7 +46,7 @@ returns-in_err-check_levels c =
 pub returns : goal.returns
 returns c =
     let e = sym c.in_ok-lawful.ensures in
-    let s = value-is _ _ e in
+    let s = c.shape-shape.ensures ∙ value-is _ _ e in
     let long = c.if-levels-nodes.false ∙ c.nodes.ensures ∙ ap total s in
     let fits = rw (c.file_length.ensures, s) at c.if-room-file_length.false in
     let said = sym (rw (value-is _ _ e) at c.in_ok-check_levels.ensures) in
