@@ -9,13 +9,15 @@ use crate::rasters::Raster;
 use crate::taps::Weights;
 use crate::{LawfulSettings, Settings, Shape};
 
-// A level of these settings, by its number.
+// A level of these settings, by its number, and where it starts in a buffer of all levels.
 #[derive(Clone, Copy)]
 pub struct Level {
     pub settings: Settings,
     pub number: u16,
+    place: usize,
     ghost lawful: { Lawful settings },
     ghost within: { number ≤ settings.depth },
+    ghost placed: { (place ≡ start settings number) × (place ≤ 22359) },
 }
 
 impl LawfulSettings {
@@ -25,7 +27,12 @@ impl LawfulSettings {
         ensures { (result.settings ≡ self) × (result.number ≡ number) }
     {
         let settings = self.settings;
-        Level { settings, number }
+        let place = self.shape().start_of(number);
+        Level {
+            settings,
+            number,
+            place,
+        }
     }
 }
 
@@ -37,14 +44,20 @@ impl Level {
         Shape { settings }
     }
 
-    // The level above it.
+    // The level above it, which ends where it starts.
     pub fn above(self) -> Level
         requires { self.number < self.settings.depth }
         ensures { (result.settings ≡ self.settings) × (result.number ≡ suc self.number) }
     {
         let settings = self.settings;
         let number = self.number + 1;
-        Level { settings, number }
+        let shape = self.shape();
+        let place = self.place - shape.nodes_at(number);
+        Level {
+            settings,
+            number,
+            place,
+        }
     }
 
     pub fn columns(self) -> usize
@@ -65,11 +78,10 @@ impl Level {
         self.shape().nodes_at(self.number)
     }
 
-    // Where it starts in a buffer of all levels.
     pub fn start(self) -> usize
         ensures { (result ≡ start self.settings self.number) × (result ≤ 22359) }
     {
-        self.shape().start_of(self.number)
+        self.place
     }
 
     // Its values, which some values begin with.
