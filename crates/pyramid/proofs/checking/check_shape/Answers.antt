@@ -15,9 +15,6 @@ returns-then-not-size_ok c = refuses tt Size (answers_fails {number = 0} _ (sym 
 pub deepest-requires : goal.deepest-requires
 deepest-requires c = size_positive _ _ (sym c.if-not-size_ok.ensures)
 
-pub depth_refusal-requires : goal.depth_refusal-requires
-depth_refusal-requires c = (sym c.if-not-size_ok.ensures, rw c.deepest.ensures at c.if-deepest-s.true)
-
 pub returns-then-deepest-s : goal.returns-then-deepest-s
 returns-then-deepest-s c = refuses tt _ c.depth_refusal.ensures
 

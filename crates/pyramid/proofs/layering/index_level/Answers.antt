@@ -9,7 +9,7 @@ use Rattle.pyramid.specs.Definitions.Buffers.{start, read_levels}
 use Rattle.pyramid.specs.Inner.Rows.{Small}
 use Rattle.pyramid.specs.Inner.Layers.{predicted}
 use Rattle.pyramid.proofs.Sizes.{total_most}
-use Rattle.pyramid.proofs.Rendering.{rendering_start, rendering_end}
+use Rattle.pyramid.proofs.Rendering.{rendering_start}
 use Rattle.pyramid.proofs.PredictedRows.{row_small, row_of, given_row, row_room}
 use Rattle.pyramid.proofs.LentParts.{lent_back}
 use Rattle.pyramid.proofs.LevelParts.{level_inside}
@@ -91,6 +91,3 @@ loop-j-preserved c =
     index_row n.requires (turn n) c.predict_row.ensures n.loop-j.invariant (place n) (averages n) (written n ∙ across n)
     (lent_back (at n) (at n + n.columns-columns.result - at n) n.loop-j.levels c.index_row.new.indices (omega (arith, long))
     ∙ rw (c.index_row.ensures, n.bin-bin.ensures))
-
-pub returns : goal.returns
-returns c = rendering_end c.loop-j.invariant (omega (arith, c.loop-j-test.false, c.rows-j-end.ensures.0))

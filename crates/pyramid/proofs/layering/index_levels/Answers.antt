@@ -5,9 +5,6 @@ use Rattle.pyramid.proofs.IndexLevels.{before_long, level_indexed, indexed_last,
 use Rattle.pyramid.proofs.layering.index_levels.Goals as goal
 use Rattle.pyramid.proofs.layering.index_levels.Goals.{After-lawful}
 
-pub loop-l-init : goal.loop-l-init
-loop-l-init c = (c.requires.each 0 (omega arith)).filled
-
 depth_is : (c : After-lawful) → c.lawful.inside.settings.depth ≡ c.args.lawful.depth
 depth_is c = ap (λ (s : Settings). s.depth) c.lawful.view_is
 

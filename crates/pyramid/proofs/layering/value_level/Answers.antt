@@ -1,5 +1,5 @@
 -- `pyramid::layering::value_level` meets its contract, row by row. Assumes nothing.
-use Rattle.std.proofs.Common.{◌≡◌, sym, ap, ◌∙◌, List, ℕ, suc, ◌+◌, ◌-◌, ◌*◌, ◌≤◌, ◌<◌, length, take, ◌++◌, ℤ, arith}
+use Rattle.std.proofs.Common.{◌≡◌, ap, ◌∙◌, List, ℕ, suc, ◌+◌, ◌-◌, ◌*◌, ◌≤◌, ◌<◌, length, take, ◌++◌, ℤ, arith}
 use Rattle.mathematics.specs.Inner.Splices.{part}
 use Rattle.mathematics.proofs.Tables.{length-tabulate}
 use Rattle.mathematics.proofs.Splices.{part_long}
@@ -65,16 +65,6 @@ predict_row-requires-clause-small c = above (goal.at.predict_row-requires-clause
 
 pub slice_bounds-indices-end : goal.slice_bounds-indices-end
 slice_bounds-indices-end c = room (goal.at.slice_bounds-indices-end c).In-loop-j
-
-pub slice_bounds-value_row-end : goal.slice_bounds-value_row-end
-slice_bounds-value_row-end c =
-    let n = (goal.at.slice_bounds-value_row-end c).In-loop-j in
-    omega (arith, value_row_room n)
-
-pub value_row-requires-clause-lengths : goal.value_row-requires-clause-lengths
-value_row-requires-clause-lengths c =
-    let n = (goal.at.value_row-requires-clause-lengths c).In-loop-j in
-    (indices_long n ∙ sym (written n), ap length c.predict_row.ensures ∙ length-tabulate _ _ ∙ sym (across n) ∙ sym (written n))
 
 pub value_row-requires-clause-small : goal.value_row-requires-clause-small
 value_row-requires-clause-small c =

@@ -1,6 +1,5 @@
 -- `pyramid::rasters::Raster::row` meets its contract: the reflected row lies inside the level. Assumes nothing.
 use Rattle.std.proofs.Common.{◌-◌, ◌+◌, ◌*◌, ◌≤◌, ◌<◌, length, arith}
-use Rattle.mathematics.proofs.Splices.{part_long}
 use Rattle.pyramid.specs.Definitions.Edge.{reflect}
 use Rattle.pyramid.proofs.Edge.{reflect_most}
 use Rattle.pyramid.proofs.Buffers.{row_inside, level_small}
@@ -28,6 +27,3 @@ offset_bounds-self-start c = omega (arith, near (goal.at.offset_bounds-self-star
 
 pub slice_bounds-result-end : goal.slice_bounds-result-end
 slice_bounds-result-end c = inside (goal.at.slice_bounds-result-end c).After-reflected
-
-pub returns-clause-long : goal.returns-clause-long
-returns-clause-long c = part_long _ c.args.self.columns c.args.self.values.now (inside (goal.at.returns-clause-long c).After-reflected)

@@ -1,5 +1,5 @@
 -- `pyramid::shapes::Shape::lawful` meets its contract: the shape is lawful, so the bins are what is left to look at. Assumes nothing.
-use mathlib.Core.Path.{◌≡◌, subst}
+use mathlib.Core.Path.{subst}
 use lib.Dec.{T}
 use Rattle.refusals.specs.declared.Refusal.TheVariants.{Bin}
 use Rattle.refusals.proofs.Outcomes.{refuses, accepts}
