@@ -8,8 +8,6 @@ use native.Mathlib.Omega.{arith}
 use borrow.Rule.Slice.PartMut.{put_mid}
 use lib.IntN.{ℤ, pos}
 use lib.ListN.{length, get_or, take, drop, length-map, get_or-map}
-use mir.Syntax.{w16}
-use Rattle.std.specs.Int.{to_le_bytes}
 use lib.Seq.{length-take-le, take_all, take-suc}
 use Rattle.mathematics.specs.Inner.Splices.{splice, part}
 use Rattle.mathematics.specs.Definitions.Tables.{tabulate}
@@ -20,15 +18,15 @@ use Rattle.pyramid.specs.Definitions.Settings.{bin}
 use Rattle.pyramid.specs.Definitions.Sizes.{nodes_at, total}
 use Rattle.pyramid.proofs.Sizes.{total-is}
 use Rattle.bale.specs.declared.Note.{Note}
-use Rattle.bale.specs.Definitions.Words.{le16, le32, words, index_word, word_index, u16_at, words_at, indices_at}
+use Rattle.bale.specs.Definitions.Words.{le16, words, index_word, word_index, u16_at, words_at, indices_at}
 use Rattle.bale.specs.Definitions.Readings.{reading_bytes}
 use Rattle.bale.specs.Definitions.Sections.{numbers_section}
 use Rattle.bale.specs.Definitions.Files.{shape_section, bins_from, bins_section, readings_section, level_section, level_sections, file_of, file_length}
 use Rattle.bale.specs.Definitions.Reader.{levels_place, levels_from}
-use Rattle.bale.proofs.WordLaws.{put_splice, put16_front}
+use Rattle.bale.proofs.WordLaws.{put_splice}
 use Rattle.bale.proofs.WordLists.{indices_part, length-words, words_append, length-words_at, get_or-words_at}
 use Rattle.bale.proofs.LevelTrips.{length_level, length_levels, length_indices}
-use Rattle.bale.proofs.FileLengths.{length_readings, length-bins_from}
+use Rattle.bale.proofs.FileLengths.{length-bins_from}
 
 -- ---- a piece right after a piece
 
@@ -136,21 +134,10 @@ module _ (ms : List ℤ) where
   level_whole = numbers_whole (length ms) (map index_word ms) (sym (length-map ms index_word))
 
 -- the readings
-pub readings_whole : (note : Note) (l : List ℕ) {count drier press : List ℕ} → length l ≡ 12 → count ≡ to_le_bytes w16 2
-    → drier ≡ reading_bytes note.before_drier → press ≡ reading_bytes note.at_press
-    → let b = put_mid 2 5 (count ++ drop 2 l) drier in put_mid 7 (length b - 7) b press ≡ readings_section note
-unfolding readings_section le16 le32
-readings_whole note l {count} {drier} {press} long p q r =
-    let a = count ++ drop 2 l in
-    let b = put_mid 2 5 a drier in
-    let front = le16 2 ++ reading_bytes note.before_drier in
-    let first : b ≡ splice 2 (reading_bytes note.before_drier) a = rw q (put_splice 2 5 (reading_bytes note.before_drier) a refl) in
-    let two = piece_next 0 (le16 2) (reading_bytes note.before_drier) l (put16_front 2 l p) first refl (omega arith) in
-    let same : length b ≡ 12 = ap length two ∙ length-splice 0 front l (omega arith) ∙ long in
-    let second : put_mid 7 (length b - 7) b press ≡ splice 7 (reading_bytes note.at_press) b =
-    rw r (put_splice 7 (length b - 7) (reading_bytes note.at_press) b (omega (arith, same)))
-    in
-    whole_part (readings_section note) l (piece_next 0 front (reading_bytes note.at_press) l two second refl (omega arith)) (length_readings note ∙ sym long)
+pub readings_whole : (note : Note) {count drier press : List ℕ} → count ≡ le16 2 → drier ≡ reading_bytes note.before_drier → press ≡ reading_bytes note.at_press
+    → count ++ (drier ++ press) ≡ readings_section note
+unfolding readings_section
+readings_whole note p q r = rw (p, q, r)
 
 -- ---- the sections of a level and of those below it, whose indices stand from a place on
 

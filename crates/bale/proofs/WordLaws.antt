@@ -1,7 +1,7 @@
 -- Laws of bytes, low byte first, and of indices in two's complement. Assumes nothing.
 use mathlib.Core.Path.{◌≡◌, refl, sym, ap, ◌∙◌}
 use mathlib.Core.Bool.{Bool, true, false, cond}
-use mathlib.Core.List.{List, [], ◌∷◌, ◌++◌}
+use mathlib.Core.List.{List, [], ◌∷◌}
 use Prim.Native.Nat.{ℕ, suc, ◌+◌, ◌-◌, ◌*◌, ◌/◌, ◌%◌, ◌<◌}
 use native.Mathlib.Nat.{div-div-eq-div-mul, div-add-mod', mod-eq_of_lt}
 use native.Mathlib.Omega.{arith}
@@ -16,7 +16,6 @@ use mir.Val.{SFits, of_z, to_z, sel}
 use Rattle.std.specs.Int.{to_le_bytes}
 use Rattle.mathematics.specs.Inner.Splices.{splice}
 use Rattle.mathematics.proofs.Integers.{ints}
-use Rattle.mathematics.proofs.Splices.{splice_front}
 use Rattle.bale.specs.Definitions.Words.{le16, le32, index_word, word_index}
 
 -- ---- numbers and their digits, each a byte
@@ -70,10 +69,6 @@ pub low_bytes16 : (n : ℕ) → to_le_bytes w16 n ≡ le16 n
 unfolding le16
 low_bytes16 n = refl
 
-pub low_bytes32 : (n : ℕ) → to_le_bytes w32 n ≡ le32 n
-unfolding le32
-low_bytes32 n = refl
-
 pub put_splice : {A : Type 0} (at k : ℕ) (xs l : List A) → k ≡ length xs → put_mid at k l xs ≡ splice at xs l
 unfolding splice
 put_splice at k xs l e = rw (drop-drop k at l, e)
@@ -82,10 +77,6 @@ put_splice at k xs l e = rw (drop-drop k at l, e)
 pub put16 : (at n : ℕ) (l : List ℕ) {k : ℕ} {xs : List ℕ} → xs ≡ to_le_bytes w16 n → k ≡ 2 → put_mid at k l xs ≡ splice at (le16 n) l
 unfolding le16
 put16 at n l {k} p e = rw p (put_splice at k (le16 n) l e)
-
-pub put16_front : (n : ℕ) (l : List ℕ) {xs : List ℕ} → xs ≡ to_le_bytes w16 n → xs ++ drop 2 l ≡ splice 0 (le16 n) l
-unfolding le16
-put16_front n l p = rw p (sym (splice_front (le16 n) l))
 
 -- a kind and a number in the five bytes that are theirs
 pub code_whole : (kind number : ℕ) (l : List ℕ) {xs : List ℕ} → length l ≡ 5 → xs ≡ to_le_bytes w32 number

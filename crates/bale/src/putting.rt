@@ -1,4 +1,5 @@
 // The sections of a file, each in the part of the writer's buffer that is its own (document 01, "Bale file").
+// Kept: each function asks that its part is as long as what it writes there; how long that is differs from section to section.
 ghost use Rattle.std.specs.Prelude.{◌≡◌, ◌++◌, ◌∷◌, ◌+◌, ◌*◌, ◌≤◌, ◌<◌, T, length, drop};
 ghost use Rattle.pyramid.specs.Definitions.Sizes.{total};
 ghost use Rattle.bale.specs.Definitions.Words.{le32};
@@ -49,9 +50,11 @@ fn put_readings(note: Note, section: &mut [u8])
     requires long { length section.old ≡ 12 }
     ensures { section.new ≡ readings_section note }
 {
-    section[..2].copy_from_slice(&2u16.to_le_bytes());
-    put_code(note.before_drier.code(), &mut section[2..7]);
-    put_code(note.at_press.code(), &mut section[7..]);
+    let (count, codes) = section.split_at_mut(2);
+    let (before_drier, at_press) = codes.split_at_mut(5);
+    count.copy_from_slice(&2u16.to_le_bytes());
+    put_code(note.before_drier.code(), before_drier);
+    put_code(note.at_press.code(), at_press);
 }
 
 // A level's section.

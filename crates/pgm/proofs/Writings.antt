@@ -1,18 +1,18 @@
 -- What the writer puts into its buffer, piece after piece, and the size that it answers. Assumes nothing.
 use mathlib.Core.Path.{◌≡◌, refl, sym, ap, ◌∙◌}
 use mathlib.Core.Logic.{◌≢◌}
-use mathlib.Core.List.{List, [], ◌∷◌, ◌++◌, append_assoc}
-use Prim.Native.Nat.{ℕ, suc, ◌+◌, ◌-◌, ◌*◌, ◌≤◌, ◌<◌}
+use mathlib.Core.List.{List, [], ◌∷◌, ◌++◌}
+use Prim.Native.Nat.{ℕ, suc, ◌+◌, ◌*◌, ◌≤◌, ◌<◌}
+use native.Mathlib.Nat.{zero-add}
 use native.Mathlib.Omega.{arith}
 use borrow.Author.Tests.{eq-eqb, ne_eqb, le-leb, lt-leb}
-use borrow.Rule.Slice.PartMut.{put_mid}
 use lib.Dec.{leb}
-use lib.ListN.{length, set, drop, length-append}
-use lib.Seq.{drop-drop}
+use lib.ListN.{length, set, take, drop, length-append}
+use lib.Seq.{length-take-le}
 use Rattle.std.proofs.Common.{Option, Some, Result, Ok, Err}
 use Rattle.std.specs.Option.{IsSome}
 use Rattle.mathematics.specs.Inner.Splices.{splice}
-use Rattle.mathematics.proofs.Splices.{splice-set, splice_append, splice_front}
+use Rattle.mathematics.proofs.Splices.{splice-set, splice_whole}
 use Rattle.decimals.specs.Definitions.Text.{decimal}
 use Rattle.decimals.proofs.Counting.{decimal_one, decimal-more, count_most, Put, put_room}
 use Rattle.refusals.specs.declared.Refusal.{Refusal}
@@ -25,7 +25,7 @@ use Rattle.pyramid.specs.Definitions.Refusals.{unless, first}
 use Rattle.pyramid.proofs.Refusals.{first_nil, first_stop, answers_skip, answers_fails, answers_passes, leaves_kept, outcome_left}
 use Rattle.pgm.specs.Definitions.Files.{number_then, header_of, pgm_of, pgm_length}
 use Rattle.pgm.specs.Definitions.Calls.{size_answer, write_refusal, write_pgm}
-use Rattle.pgm.proofs.Acceptance.{accepted_writing, writing_is}
+use Rattle.pgm.proofs.Acceptance.{writing_is}
 use Rattle.pgm.proofs.Answers.{size_accepted}
 
 -- ---- lengths
@@ -68,70 +68,35 @@ module _ (columns rows : ℕ) where
   unfolding pgm_of pgm_length
   pgm_long picture e = length-append (header_of columns rows) picture ∙ ap (λ (k : ℕ). length (header_of columns rows) + k) e
 
-pub header_fits : (columns rows : ℕ) {room : ℕ} → pgm_length columns rows ≤ room → length (header_of columns rows) ≤ room
-unfolding pgm_length
-header_fits columns rows h = omega arith
+-- ---- parts
 
--- ---- pieces
-
--- bytes that were copied to a place
-pub put_bytes : (at : ℕ) (bytes l : List ℕ) {w : List ℕ} → w ≡ bytes → put_mid at (at + length bytes - at) l w ≡ splice at bytes l
-unfolding splice
-put_bytes at bytes l e = let k : at + length bytes - at ≡ length bytes = omega arith in rw (e, k, drop-drop (length bytes) at l)
-
--- a number that was put, and its white space byte
-module _ (n at : ℕ) (l : List ℕ) {w : List ℕ} {o : Option ℕ} (room : at + (length (decimal n) + 1) ≤ length l) (put : Put n at l o w) where
-  there : (o ≡ Some (length (decimal n))) × (w ≡ splice at (decimal n) l)
-  there = put_room n at l (omega arith) put
+-- a number that was put in its part, and its white space byte
+module _ (n : ℕ) (l : List ℕ) {w : List ℕ} {o : Option ℕ} (long : length l ≡ length (decimal n) + 1) (put : Put n 0 l o w) where
+  there : (o ≡ Some (length (decimal n))) × (w ≡ splice 0 (decimal n) l)
+  there = put_room n 0 l (omega arith) put
 
   pub put_some : IsSome o
   put_some = rw there.0
 
-  module _ {count : ℕ} (is : o ≡ Some count) where
-    counted : count ≡ length (decimal n)
-    counted = let same : Some count ≡ Some (length (decimal n)) = sym is ∙ there.0 in cc
+  pub put_then : {count : ℕ} → o ≡ Some count → (space : ℕ) → set w count space ≡ number_then n space
+  unfolding number_then
+  put_then {count} is space =
+      let same : Some count ≡ Some (length (decimal n)) = sym is ∙ there.0 in
+      let counted : count ≡ length (decimal n) = cc in
+      let all : length (decimal n ++ (space ∷ [])) ≡ length l = length-append (decimal n) (space ∷ []) ∙ sym long in
+      let set_there : set (splice 0 (decimal n) l) (0 + length (decimal n)) space ≡ splice 0 (decimal n ++ (space ∷ [])) l =
+      splice-set 0 (decimal n) l (omega arith) space (omega arith)
+      in
+      rw (there.1, counted) (rw zero-add at set_there ∙ splice_whole (decimal n ++ (space ∷ [])) l all)
 
-    pub put_then : (space : ℕ) → (at + count + 1 ≡ at + (length (decimal n) + 1)) × (set w (at + count) space ≡ splice at (number_then n space) l)
-    unfolding number_then
-    put_then space = (omega (arith, counted), rw (there.1, counted) (splice-set at (decimal n) l (omega arith) space (omega arith)))
-
--- one piece more
-put_next : (at second : ℕ) (xs ys l : List ℕ) {w v : List ℕ} → at + length xs ≤ length l → second ≡ at + length xs → w ≡ splice at xs l → v ≡ splice second ys w
-    → v ≡ splice at (xs ++ ys) l
-put_next at second xs ys l h s p q = q ∙ rw (s, p) (splice_append at xs l h ys)
-
-pub put_header : (columns rows : ℕ) (l : List ℕ) {w₀ w₁ w₂ w₃ : List ℕ} {second third last : ℕ} → length (header_of columns rows) ≤ length l
-    → w₀ ≡ splice 0 (80 ∷ 53 ∷ 10 ∷ []) l
-    → second ≡ 3 + (length (decimal columns) + 1) → w₁ ≡ splice 3 (number_then columns 32) w₀
-    → third ≡ second + (length (decimal rows) + 1) → w₂ ≡ splice second (number_then rows 10) w₁
-    → last ≡ third + 4 → w₃ ≡ splice third (50 ∷ 53 ∷ 53 ∷ 10 ∷ []) w₂
-    → (last ≡ length (header_of columns rows)) × (w₃ ≡ splice 0 (header_of columns rows) l)
+pub header_whole : (columns rows : ℕ) {a b c d : List ℕ} → a ≡ 80 ∷ 53 ∷ 10 ∷ [] → b ≡ number_then columns 32 → c ≡ number_then rows 10 → d ≡ 50 ∷ 53 ∷ 53 ∷ 10 ∷ []
+    → a ++ (b ++ (c ++ d)) ≡ header_of columns rows
 unfolding header_of
-put_header columns rows l {w₀} {w₁} {w₂} {w₃} {second} {third} {last} room p₀ s₁ p₁ s₂ p₂ s₃ p₃ =
-    let name : List ℕ = 80 ∷ 53 ∷ 10 ∷ [] in
-    let c = number_then columns 32 in
-    let r = number_then rows 10 in
-    let g = number_then 255 10 in
-    let all = header_pieces columns rows in
-    let cs = then_length columns 32 in
-    let rs = then_length rows 10 in
-    let four = greatest_length in
-    let nc = length-append name c in
-    let ncr = length-append (name ++ c) r in
-    let q₁ : w₁ ≡ splice 0 (name ++ c) l = put_next 0 3 name c l (omega arith) (omega arith) p₀ p₁ in
-    let q₂ : w₂ ≡ splice 0 ((name ++ c) ++ r) l = put_next 0 second (name ++ c) r l (omega arith) (omega arith) q₁ p₂ in
-    let q₃ : w₃ ≡ splice 0 (((name ++ c) ++ r) ++ g) l = put_next 0 third ((name ++ c) ++ r) g l (omega arith) (omega arith) q₂ (rw (← greatest_is) at p₃) in
-    (omega arith, rw (append_assoc (name ++ c) r g, append_assoc name c (r ++ g)) at q₃)
+header_whole columns rows p q r t = rw (p, q, r, t, greatest_is)
 
-pub put_picture : (columns rows : ℕ) (picture l : List ℕ) {w v : List ℕ} {at : ℕ} → write_refusal columns rows (length picture) (length l) ≡ 0
-    → at ≡ length (header_of columns rows) → w ≡ splice 0 (header_of columns rows) l → v ≡ splice at picture w
-    → v ≡ pgm_of columns rows picture ++ drop (pgm_length columns rows) l
+pub pgm_whole : (columns rows : ℕ) (picture : List ℕ) {a b : List ℕ} → a ≡ header_of columns rows → b ≡ picture → a ++ b ≡ pgm_of columns rows picture
 unfolding pgm_of
-put_picture columns rows picture l {w} {v} {at} e s p q =
-    let a = accepted_writing columns rows (length picture) (length l) e in
-    let room = header_fits columns rows a.fits in
-    rw (pgm_long columns rows picture a.long) at
-    (put_next 0 at (header_of columns rows) picture l (omega arith) (omega arith) p q ∙ splice_front (header_of columns rows ++ picture) l)
+pgm_whole columns rows picture p q = rw (p, q)
 
 -- ---- what the writer answers
 
@@ -191,9 +156,15 @@ module _ (columns rows : ℕ) where
           pub room_refused : length file < size → Answered (Err FileLength) × (file ≡ (write_pgm columns rows picture file).file)
           room_refused short = refuses_by FileLength (answers_fails {number = 7} _ (lt-leb _ _ (rw is at short)) ∙ after_picture) refl
 
-          pub none_refused : size ≤ length file → number ≡ 0
+          -- the part of the buffer that is the file's
+          pub part_long : size ≤ length file → length (take size file) ≡ length (header_of columns rows) + length picture
+          unfolding pgm_length
+          part_long long = length-take-le size file long ∙ is ∙ omega (arith, same)
+
+          none_refused : size ≤ length file → number ≡ 0
           none_refused long = sym (sym first_nil ∙ answers_passes 8 _ (le-leb _ _ (rw is at long)) ∙ after_picture)
 
-          pub written : {w : List ℕ} → size ≤ length file → w ≡ pgm_of columns rows picture ++ drop (pgm_length columns rows) file → Answered (Ok size) × (w ≡ (write_pgm columns rows picture file).file)
+          pub written : {w : List ℕ} → size ≤ length file → w ≡ pgm_of columns rows picture
+              → Answered (Ok size) × (w ++ drop size file ≡ (write_pgm columns rows picture file).file)
           unfolding outcome
-          written long p = let e = writing_is columns rows picture file (none_refused long) in rw e (ap Ok is, p)
+          written long p = let e = writing_is columns rows picture file (none_refused long) in rw e (ap Ok is, rw (p, is))

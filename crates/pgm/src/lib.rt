@@ -62,6 +62,6 @@ pub fn write_pgm(columns: u16, rows: u16, picture: &[u8], file: &mut [u8]) -> Re
     if file.len() < size {
         return Err(Refusal::FileLength);
     }
-    putting::put_pgm(columns, rows, picture, file);
+    putting::put_pgm(columns, rows, picture, &mut file[..size]);
     Ok(size)
 }

@@ -1,50 +1,38 @@
-// A file in its single form, into the writer's buffer (document 02, P2).
-ghost use Rattle.std.specs.Prelude.{◌≡◌, ◌++◌, ◌+◌, ◌≤◌, length, drop};
-ghost use Rattle.mathematics.specs.Inner.Splices.{splice};
+// A file in its single form, each piece in the part of the buffer that is its own (document 02, P2).
+ghost use Rattle.std.specs.Prelude.{◌≡◌, ◌+◌, length};
 ghost use Rattle.decimals.specs.Definitions.Text.{decimal};
-ghost use Rattle.pgm.specs.Definitions.Files.{number_then, header_of, pgm_of, pgm_length};
-ghost use Rattle.pgm.specs.Definitions.Calls.{write_refusal};
+ghost use Rattle.pgm.specs.Definitions.Files.{number_then, header_of, pgm_of};
 
-// Kept beside bale's: one call of `copy_from_slice` with its contract; a buffer and a place in it, since a part's place is where the one
-// before it ends.
-// Bytes from a place on.
-fn put(bytes: &[u8], file: &mut [u8], at: usize)
-    requires { at + length bytes.now ≤ length file.old }
-    ensures { file.new ≡ splice at bytes.now file.old }
+// A number and the white space byte after it.
+fn put_number(n: u16, space: u8, part: &mut [u8])
+    requires { length part.old ≡ length (decimal n) + 1 }
+    ensures { part.new ≡ number_then n space }
 {
-    file[at..at + bytes.len()].copy_from_slice(bytes);
+    let digits = decimals::put_decimal(n as u32, part, 0).unwrap();
+    part[digits] = space;
 }
 
-// A number and the white space byte after it, and the place after these.
-fn put_number(n: u16, space: u8, file: &mut [u8], at: usize) -> usize
-    requires { at + (length (decimal n) + 1) ≤ length file.old }
-    ensures value { result ≡ at + (length (decimal n) + 1) }
-    ensures file_after { file.new ≡ splice at (number_then n space) file.old }
+#[tactic(auto, using(crate::proofs::Writings::header_pieces))]
+fn put_header(columns: u16, rows: u16, header: &mut [u8])
+    requires { length header.old ≡ length (header_of columns rows) }
+    ensures { header.new ≡ header_of columns rows }
 {
-    let end = at + decimals::put_decimal(n as u32, file, at).unwrap();
-    file[end] = space;
-    end + 1
+    let (name, rest) = header.split_at_mut(3);
+    let (width, rest) = rest.split_at_mut(decimals::digit_count(columns as u32) + 1);
+    let (height, greatest) = rest.split_at_mut(decimals::digit_count(rows as u32) + 1);
+    name.copy_from_slice(b"P5\n");
+    put_number(columns, b' ', width);
+    put_number(rows, b'\n', height);
+    greatest.copy_from_slice(b"255\n");
 }
 
-// The header, and the place of the pixels.
-fn put_header(columns: u16, rows: u16, file: &mut [u8]) -> usize
-    requires { length (header_of columns rows) ≤ length file.old }
-    ensures value { result ≡ length (header_of columns rows) }
-    ensures file_after { file.new ≡ splice 0 (header_of columns rows) file.old }
-{
-    put(b"P5\n", file, 0);
-    let second = put_number(columns, b' ', file, 3);
-    let third = put_number(rows, b'\n', file, second);
-    put(b"255\n", file, third);
-    third + 4
-}
-
-// A file that the writer accepts.
+// The whole file.
 pub fn put_pgm(columns: u16, rows: u16, picture: &[u8], file: &mut [u8])
-    requires { write_refusal columns rows (length picture.now) (length file.old) ≡ 0 }
-    ensures { file.new ≡
-        pgm_of columns rows picture.now ++ drop (pgm_length columns rows) file.old }
+    requires { length file.old ≡ length (header_of columns rows) + length picture.now }
+    ensures { file.new ≡ pgm_of columns rows picture.now }
 {
-    let pixels = put_header(columns, rows, file);
-    put(picture, file, pixels);
+    let at = file.len() - picture.len();
+    let (header, pixels) = file.split_at_mut(at);
+    put_header(columns, rows, header);
+    pixels.copy_from_slice(picture);
 }

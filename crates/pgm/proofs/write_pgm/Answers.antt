@@ -2,7 +2,7 @@
 use mathlib.Core.Path.{sym, ◌∙◌}
 use Rattle.refusals.proofs.Outcomes.{none, some, value-is, passed_on}
 use Rattle.pgm.specs.Definitions.Calls.{write_pgm}
-use Rattle.pgm.proofs.Writings.{size-outcome, stops, size_untouched, picture_refused, room_refused, none_refused, written}
+use Rattle.pgm.proofs.Writings.{size-outcome, stops, size_untouched, picture_refused, room_refused, part_long, written}
 use Rattle.pgm.proofs.write_pgm.Goals as goal
 
 pub returns-in_err-size : goal.returns-in_err-size
@@ -31,7 +31,7 @@ returns-then-file-size c =
 pub put_pgm-requires : goal.put_pgm-requires
 put_pgm-requires c =
     let e = sym (c.in_ok-size.ensures ∙ size-outcome _ _) in
-    none_refused _ _ c.args.picture.now c.args.file.now (none _ _ e) c.if-picture-rows.false (value-is _ _ e) c.if-file-size.false
+    part_long _ _ c.args.picture.now c.args.file.now (none _ _ e) c.if-picture-rows.false (value-is _ _ e) c.if-file-size.false
 
 pub returns : goal.returns
 returns c =

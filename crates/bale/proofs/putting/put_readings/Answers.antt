@@ -2,6 +2,7 @@
 use mathlib.Core.Path.{◌∙◌}
 use Rattle.mathematics.proofs.Tests.{both}
 use Rattle.bale.specs.Definitions.Readings.{reading_ok, note_ok}
+use Rattle.bale.proofs.WordLaws.{low_bytes16}
 use Rattle.bale.proofs.Pieces.{readings_whole}
 use Rattle.bale.proofs.putting.put_readings.Goals as goal
 
@@ -15,6 +16,6 @@ code-requires-2 c = (both (reading_ok c.args.note.before_drier) (reading_ok c.ar
 
 pub returns : goal.returns
 returns c =
-    readings_whole c.args.note c.args.section.now c.requires.long (c.copy_from_slice.ensures.after ∙ c.to_le_bytes.ensures)
+    readings_whole c.args.note (c.copy_from_slice.ensures.after ∙ c.to_le_bytes.ensures ∙ low_bytes16 2)
     (c.put_code.ensures ∙ rw c.code.ensures)
     (c.put_code-2.ensures ∙ rw c.code-2.ensures)

@@ -1,6 +1,6 @@
 -- `pgm::finding::digits_place` meets its contract: each turn of its loop passes one byte. Assumes nothing.
 use mathlib.Core.Path.{refl}
-use Rattle.pgm.proofs.Passing.{passing_start, passing_next, passing_stop, passing_past}
+use Rattle.pgm.proofs.Passing.{passing_next, passing_stop, passing_past}
 use Rattle.pgm.proofs.finding.digits_place.Goals as goal
 
 pub loop-i-preserved : goal.loop-i-preserved

@@ -1,11 +1,9 @@
 -- `bale::shaped::ShapedFile::fill` meets its contract: level by level. Assumes nothing.
 use mathlib.Core.Path.{sym, ap, ◌∙◌}
-use Prim.Native.Nat.{◌+◌, ◌*◌}
 use native.Mathlib.Omega.{arith}
 use Rattle.pyramid.specs.Definitions.Sizes.{total}
 use Rattle.pyramid.proofs.Sizes.{nodes_down, total-is}
 use Rattle.pyramid.proofs.LevelParts.{least_nodes}
-use Rattle.mathematics.proofs.Splices.{part_long}
 use Rattle.bale.proofs.AcceptedFiles.{accepted_file, filled}
 use Rattle.bale.proofs.Checks.{nodes_here}
 use Rattle.bale.proofs.Pieces.{part_filled, read_last, read_more}
@@ -28,14 +26,6 @@ pub slice_bounds-indices-end : goal.slice_bounds-indices-end
 slice_bounds-indices-end c =
     let s = c.args.self.now.shape.settings in
     omega (arith, nodes_here s c.loop-level.level (omega arith) c.level_nodes-nodes.ensures, least_nodes s c.loop-level.level)
-
-pub fill_indices-requires : goal.fill_indices-requires
-fill_indices-requires c =
-    let s = c.args.self.now.shape.settings in
-    let l = c.loop-level in
-    let n = nodes_here s l.level (omega arith) c.level_nodes-nodes.ensures in
-    let least = least_nodes s l.level in
-    omega (arith, n, least, part_long l.from c.level_nodes-nodes.result l.levels (omega arith), part_long (l.at + 2) (2 * c.level_nodes-nodes.result) c.args.self.now.bytes.now (omega arith))
 
 pub loop-level-preserved : goal.loop-level-preserved
 loop-level-preserved c =
