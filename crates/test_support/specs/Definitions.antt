@@ -5,4 +5,5 @@ pub mod Tallies
 pub mod FaultSets
 pub mod FaultySettings
 pub mod Rooms
+pub mod Cases
 pub mod Answers
