@@ -9,7 +9,7 @@ use pyramid::Settings;
 use std::array;
 use test_support::comparing::{first_difference, indices};
 use test_support::decoding;
-use test_support::fillers::{byte_filler, first_changed, index_filler};
+use test_support::fillers::{byte_filler, first_changed, lawful_index, unlawful_index};
 use test_support::reading::rest;
 use test_support::reporting::Checks;
 
@@ -95,7 +95,7 @@ fn expected(refusal: u16) -> Handed {
 
 // Reads a file with so many places lent. That leaves the indices, or all places as they were.
 fn check_reading(t: &mut Checks, file: &[u8], places: usize, refusal: u16) {
-    let before: [i16; 7] = array::from_fn(|i| index_filler(false, i));
+    let before: [i16; 7] = array::from_fn(unlawful_index);
     let mut levels = before;
     let n = places.min(7);
     let got = handed::by_reading(file, &mut levels[..n]);
@@ -161,7 +161,7 @@ pub(crate) fn small() -> Checks {
 
 // Reads the file of three levels back: the fillers in the level buffer, C, R, N and k, the bins, and the readings.
 fn check_three_read(t: &mut Checks, file: &[u8], written: &[i16; 66]) {
-    let mut levels: [i16; 66] = array::from_fn(|i| index_filler(false, i));
+    let mut levels: [i16; 66] = array::from_fn(unlawful_index);
     let got = handed::by_reading(file, &mut levels);
     let e = handed::accepted(TALL, parts::note(1, 0x40D0_0000, 2, 17));
     t.check(got == e);
@@ -193,7 +193,7 @@ fn check_three(t: &mut Checks, file: &[u8; 170], levels: &[i16; 66]) {
 // Writes the file of 5 columns and 9 rows, N = 2, k = 3, bins 7, 4 and 2.
 pub(crate) fn three() -> Checks {
     let mut t = Checks::new();
-    let levels: [i16; 66] = array::from_fn(|i| index_filler(true, i));
+    let levels: [i16; 66] = array::from_fn(lawful_index);
     let mut file: [u8; 170] = array::from_fn(byte_filler);
     let mut size = usize::from(BEFORE);
     let answer = lepsarvu::lepsarvu_write_file(

@@ -5,7 +5,7 @@ use crate::parts::Readings;
 use crate::writing::Contents;
 use crate::{handed, parts, writing};
 use std::array;
-use test_support::fillers::index_filler;
+use test_support::fillers::unlawful_index;
 use test_support::reporting::Checks;
 
 // The index at a place, and its two bytes as a number: those of its two's complement.
@@ -42,7 +42,7 @@ fn levels_of(put: Put) -> [i16; 6] {
 
 // What both readers hand out, and what the reader leaves in the level buffer: the indices, or all places as they were.
 fn check_read(t: &mut Checks, file: &[u8; 40], e: Handed, indices: [i16; 6]) {
-    let before: [i16; 6] = array::from_fn(|i| index_filler(false, i));
+    let before: [i16; 6] = array::from_fn(unlawful_index);
     let mut levels = before;
     t.check(handed::by_checking(file) == e);
     t.check(handed::by_reading(file, &mut levels) == e);

@@ -2,7 +2,7 @@
 use pyramid::Settings;
 use std::array;
 use test_support::comparing::first_difference;
-use test_support::fillers::{byte_filler, first_changed, index_filler, work_filler};
+use test_support::fillers::{byte_filler, first_changed, unlawful_index, work_filler};
 use test_support::reporting::Checks;
 
 pub(crate) const SETTINGS: Settings = Settings {
@@ -32,7 +32,7 @@ fn check_coded(t: &mut Checks) {
     let averages: [i32; 21] = [
         83, 109, 118, 83, 95, 79, 0, 255, 17, 90, 3, 140, 61, 200, 38, 250, 12, 77, 129, 5, 231,
     ];
-    let mut levels: [i16; 21] = array::from_fn(|i| index_filler(false, i));
+    let mut levels: [i16; 21] = array::from_fn(unlawful_index);
     let mut work: [i32; 24] = array::from_fn(work_filler);
     let answer = lepsarvu::lepsarvu_coding(3, 5, 1, 6, &BINS, &picture, &mut levels, &mut work);
     t.check(answer == 0);

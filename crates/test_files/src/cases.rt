@@ -5,7 +5,7 @@ use crate::reading::Head;
 use crate::{answers, readers, reading, writers};
 use std::io;
 use std::io::Read;
-use test_support::reading::{Start, read_exactly, read_head};
+use test_support::reading::{check_cases, read_exactly};
 use test_support::reporting::Tally;
 
 // Both readers, and for an accepted file the writer.
@@ -43,17 +43,17 @@ fn check_case<R: Read>(data: &mut R, h: Head) -> io::Result<Option<Finding>> {
     Ok(Finding::cut_unless(is_read, Part::EndOfVectors).or(found))
 }
 
-// All cases to the end of the vectors. There are fewer than a million.
+// All cases to the end of the vectors.
 pub(crate) fn check_all<R: Read>(data: &mut R) -> io::Result<Tally<Finding>> {
     let mut tally = Tally::new();
-    for _ in 0..1000000 {
-        let mut start: [u8; 8] = [0; 8];
-        let found = match read_head(data, &mut start)? {
-            Start::Whole => check_case(data, reading::head_of(&start))?,
-            Start::NoCase => break,
-            Start::Cut => Some(Finding::of_part(Part::EndOfVectors, 0)),
-        };
-        tally.count(found);
-    }
+    let mut start: [u8; 8] = [0; 8];
+    let cut = Finding::of_part(Part::EndOfVectors, 0);
+    check_cases(
+        data,
+        &mut start,
+        Some(cut),
+        |data, start| check_case(data, reading::head_of(start)),
+        |found| tally.count(found),
+    )?;
     Ok(tally)
 }

@@ -3,7 +3,7 @@ use crate::answers;
 use crate::answers::Held;
 use crate::parts::{Call, Finding, MOST_PLACES, Part};
 use test_support::comparing::indices;
-use test_support::fillers::{fill, first_changed, index_filler};
+use test_support::fillers::{fill, first_changed, unlawful_index};
 use test_support::reporting::of_call;
 use test_support::rooms::Room;
 
@@ -28,13 +28,13 @@ fn compare_levels(is_accepted: bool, said: &[u8], levels: &[i16]) -> Option<Find
     if is_accepted {
         return Finding::compared(Part::Index, indices(said, levels, levels.len()));
     }
-    let kept = first_changed(levels, 0, |i| index_filler(false, i));
+    let kept = first_changed(levels, 0, unlawful_index);
     Finding::compared(Part::KeptIndex, kept)
 }
 
 // The reader that is lent a filled level buffer.
 fn check_reading(c: Case, levels: &mut [i16]) -> Option<Finding> {
-    fill(levels, |i| index_filler(false, i));
+    fill(levels, unlawful_index);
     let b = bale::read_file(c.file, levels);
     let left = compare_levels(c.expected.is_ok(), c.indices, levels);
     answers::compare(b, c.expected).or(left)

@@ -8,7 +8,7 @@ use pgm::PictureSize;
 use std::io;
 use std::io::Read;
 use test_support::decoding;
-use test_support::reading::{Start, read_exactly, read_head};
+use test_support::reading::{check_cases, read_exactly};
 use test_support::reporting::Tally;
 
 // The readers over an accepted file, whose picture is lent with a place more, and the writer.
@@ -111,34 +111,35 @@ impl Found {
         }
     }
 
-    // One more case, of an answer.
-    fn count(&mut self, refusal: u16, finding: Option<Finding>) {
+    // One more case, of an answer, unless the vectors end before it.
+    fn count(&mut self, refusal: Option<u16>, finding: Option<Finding>) {
         self.all.count(finding);
         match refusal {
-            0 => self.accepted.count(finding),
-            1 => self.size.count(finding),
-            16 => self.header.count(finding),
-            17 => self.greatest.count(finding),
-            18 => self.pixels.count(finding),
+            Some(0) => self.accepted.count(finding),
+            Some(1) => self.size.count(finding),
+            Some(16) => self.header.count(finding),
+            Some(17) => self.greatest.count(finding),
+            Some(18) => self.pixels.count(finding),
             _ => {}
         }
     }
 }
 
-// All cases to the end of the vectors. There are fewer than a million.
+// All cases to the end of the vectors.
 pub(crate) fn check_all<R: Read>(data: &mut R) -> io::Result<Found> {
     let mut found = Found::new();
-    for _ in 0..1000000 {
-        let mut start: [u8; 6] = [0; 6];
-        let is_read = read_head(data, &mut start)?;
-        let refusal = decoding::unsigned16_at(&start, 0);
-        let length = decoding::unsigned32_at(&start, 2) as usize;
-        let finding = match is_read {
-            Start::Whole => check_case(data, refusal, length)?,
-            Start::NoCase => break,
-            Start::Cut => Some(Finding::of_part(Part::EndOfVectors, 0)),
-        };
-        found.count(refusal, finding);
-    }
+    let mut start: [u8; 6] = [0; 6];
+    let cut = Finding::of_part(Part::EndOfVectors, 0);
+    check_cases(
+        data,
+        &mut start,
+        (None, Some(cut)),
+        |data, start| {
+            let refusal = decoding::unsigned16_at(start, 0);
+            let length = decoding::unsigned32_at(start, 2) as usize;
+            Ok((Some(refusal), check_case(data, refusal, length)?))
+        },
+        |(refusal, finding)| found.count(refusal, finding),
+    )?;
     Ok(found)
 }

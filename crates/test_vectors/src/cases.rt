@@ -42,9 +42,9 @@ pub(crate) fn check_all<R: Read>(kind: Kind, data: &mut R) -> io::Result<Tally<F
     check_cases(
         data,
         &mut head,
-        cut,
+        Some(cut),
         |data, head| check_case(kind, data, head),
-        |_, found| tally.count(found),
+        |found| tally.count(found),
     )?;
     Ok(tally)
 }
