@@ -1,5 +1,5 @@
 -- What the loop of `test_support::reading::check_cases` keeps: the cases before were read and counted.
-use Rattle.std.proofs.Common.{◌≡◌, ℕ, List, length}
+use Rattle.std.proofs.Common.{◌≡◌, List, length}
 use denote.Param.Always.{always_mut}
 use Rattle.std.specs.List.{FoldsTo}
 use Rattle.test_support.specs.Definitions.Cases.{CountedCase, Finds}
