@@ -8,7 +8,7 @@ use Rattle.refusals.specs.Definitions.Outcomes.{outcome, answer_number}
 use Rattle.refusals.proofs.Outcomes.{one_number_each}
 use Rattle.pyramid.specs.Definitions.Calls.{leaves}
 use Rattle.pyramid.specs.Checks.Numbers.{one_of}
-use Rattle.lepsarvu.specs.Definitions.Exports.{given}
+use Rattle.lepsarvu.specs.Inner.Given.{given}
 
 -- ---- a number that a call answers is one of the table's
 

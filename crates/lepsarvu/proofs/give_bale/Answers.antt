@@ -1,6 +1,7 @@
 -- `lepsarvu::give_bale` meets its contract: the parts of what is answered, or what was there. Assumes nothing.
 use mathlib.Core.Path.{◌≡◌, sym}
-use Rattle.lepsarvu.specs.Definitions.Exports.{given, kinds_of, numbers_of}
+use Rattle.lepsarvu.specs.Definitions.Exports.{kinds_of, numbers_of}
+use Rattle.lepsarvu.specs.Inner.Given.{given}
 use Rattle.lepsarvu.proofs.give_bale.Goals as goal
 
 pub returns-in-Ok-clause-kinds_after : goal.returns-in-Ok-clause-kinds_after
