@@ -2,9 +2,10 @@
 // Kept: refusals are numbers, since the exported functions answer numbers; `places` is the length of a buffer lent beside the file.
 use crate::handed::Handed;
 use crate::lent::{BEFORE, TALL};
-use crate::parts::Readings;
+use crate::parts::{Readings, code};
 use crate::writing::Contents;
 use crate::{handed, parts, writing};
+use bale::Code;
 use pyramid::Settings;
 use std::array;
 use test_support::comparing::{first_difference, indices};
@@ -14,9 +15,13 @@ use test_support::reading::rest;
 use test_support::reporting::Checks;
 
 // A fault code of 9 before the drier, 100 percent at the press.
-fn small_readings() -> Readings {
-    parts::note(2, 9, 1, 0x42C8_0000)
-}
+const SMALL_READINGS: Readings = [
+    Code { kind: 2, number: 9 },
+    Code {
+        kind: 1,
+        number: 0x42C8_0000,
+    },
+];
 
 // The file of 3 by 2, N = 0, k = 5, bin 7, these readings and the indices below; and a byte more.
 const SMALL_FILE: [u8; 41] =
@@ -27,7 +32,7 @@ const SMALL_LEVELS: [i16; 7] = [1, -1, 256, -585, 585, -32, 0];
 // Readings, how many of the levels are written into how many bytes, and the answer: the exact bytes, and more; then refusals, each
 // with the next besides.
 pub(crate) fn written() -> Checks {
-    let r = small_readings();
+    let r = SMALL_READINGS;
     let mut t = Checks::new();
     for (readings, places, room, refusal) in [
         (r, 6, 40, 0),
@@ -36,8 +41,8 @@ pub(crate) fn written() -> Checks {
         (r, 6, 0, 8),
         (r, 5, 39, 6),
         (r, 7, 39, 6),
-        (parts::note(2, 0, 1, 0), 5, 39, 4),
-        (parts::note(2, 9, 3, 0), 5, 39, 4),
+        ([code(2, 0), code(1, 0)], 5, 39, 4),
+        ([code(2, 9), code(3, 0)], 5, 39, 4),
     ] {
         let n = places.min(7);
         let contents = Contents {
@@ -77,7 +82,7 @@ pub(crate) fn unset() -> Checks {
                 kernel,
                 ..parts::small(bin)
             },
-            readings: parts::note(3, 0, 1, 0),
+            readings: [code(3, 0), code(1, 0)],
             levels: &SMALL_LEVELS[..6],
         };
         t.check(writing::gives(contents, 39, refusal, &SMALL_FILE[..40]));
@@ -85,12 +90,9 @@ pub(crate) fn unset() -> Checks {
     t
 }
 
-// What the reader is to hand out of a file with the small one's parts.
+// What the readers are to hand out of a file with the small one's parts.
 fn expected(refusal: u16) -> Handed {
-    if refusal != 0 {
-        return handed::refused(refusal);
-    }
-    handed::accepted(parts::small(7), small_readings())
+    handed::expected(refusal, parts::small(7), SMALL_READINGS)
 }
 
 // Reads a file with so many places lent. That leaves the indices, or all places as they were.
@@ -163,7 +165,7 @@ pub(crate) fn small() -> Checks {
 fn check_three_read(t: &mut Checks, file: &[u8], written: &[i16; 66]) {
     let mut levels: [i16; 66] = array::from_fn(|i| index_filler(false, i));
     let got = handed::by_reading(file, &mut levels);
-    let e = handed::accepted(TALL, parts::note(1, 0x40D0_0000, 2, 17));
+    let e = handed::accepted(TALL, [code(1, 0x40D0_0000), code(2, 17)]);
     t.check(got == e);
     t.check(levels == *written);
     t.check(handed::by_checking(file) == e);

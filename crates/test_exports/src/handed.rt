@@ -31,8 +31,16 @@ pub(crate) fn accepted(s: Settings, r: Readings) -> Handed {
         answer: 0,
         shape: [s.columns, s.rows, s.depth, s.kernel],
         bins,
-        kinds: [r.drier_kind, r.press_kind],
-        numbers: [r.drier_number, r.press_number],
+        kinds: r.map(|code| code.kind),
+        numbers: r.map(|code| code.number),
+    }
+}
+
+// What is to be handed out where the answer is 0, or a refusal.
+pub(crate) fn expected(answer: u16, s: Settings, r: Readings) -> Handed {
+    match answer {
+        0 => accepted(s, r),
+        refusal => refused(refusal),
     }
 }
 

@@ -1,7 +1,7 @@
 // The limits of indices and readings, in the writer and in both readers: a file of 3 by 2, N = 0, k = 5 with one index that is not 0.
 // Kept: refusals are numbers, since the exported functions answer numbers.
 use crate::handed::Handed;
-use crate::parts::Readings;
+use crate::parts::{Readings, code};
 use crate::writing::Contents;
 use crate::{handed, parts, writing};
 use std::array;
@@ -22,13 +22,13 @@ const BLANK_FILE: [u8; 40] =
 
 // The same with a bin, readings, of which the one before the drier is at byte 16 and the one at the press at byte 21, and an index.
 fn file_of(bin: u16, r: Readings, put: Put) -> [u8; 40] {
-    let at = 28 + 2 * put.place.min(5);
     let mut file = BLANK_FILE;
     file[12..14].copy_from_slice(&bin.to_le_bytes());
-    file[16] = r.drier_kind;
-    file[17..21].copy_from_slice(&r.drier_number.to_le_bytes());
-    file[21] = r.press_kind;
-    file[22..26].copy_from_slice(&r.press_number.to_le_bytes());
+    for (at, code) in [16, 21].into_iter().zip(r) {
+        file[at] = code.kind;
+        file[at + 1..at + 5].copy_from_slice(&code.number.to_le_bytes());
+    }
+    let at = 28 + 2 * put.place.min(5);
     file[at..at + 2].copy_from_slice(&put.word.to_le_bytes());
     file
 }
@@ -54,11 +54,7 @@ fn check(t: &mut Checks, bin: u16, r: Readings, put: Put, refusal: u16) {
     let file = file_of(bin, r, put);
     let levels = levels_of(put);
     let s = parts::small(bin);
-    let e = if refusal == 0 {
-        handed::accepted(s, r)
-    } else {
-        handed::refused(refusal)
-    };
+    let e = handed::expected(refusal, s, r);
     let contents = Contents {
         settings: s,
         readings: r,
@@ -90,7 +86,7 @@ pub(crate) fn indices() -> Checks {
     let mut t = Checks::new();
     for (bin, place, index, word, refusal) in INDICES {
         let put = Put { place, index, word };
-        check(&mut t, bin, parts::note(0, 0, 2, 9), put, refusal);
+        check(&mut t, bin, [code(0, 0), code(2, 9)], put, refusal);
     }
     t
 }
@@ -129,10 +125,9 @@ const PUT: Put = Put {
 pub(crate) fn readings() -> Checks {
     let mut t = Checks::new();
     for (kind, number, refusal) in READINGS {
-        let first = parts::note(kind, number, 2, 7);
-        let second = parts::note(1, 0x3F80_0000, kind, number);
-        check(&mut t, 3, first, PUT, refusal);
-        check(&mut t, 3, second, PUT, refusal);
+        let tried = code(kind, number);
+        check(&mut t, 3, [tried, code(2, 7)], PUT, refusal);
+        check(&mut t, 3, [code(1, 0x3F80_0000), tried], PUT, refusal);
     }
     t
 }

@@ -1,5 +1,6 @@
 // The calls that hand out numbers of a size or of settings. What they hand out is worked out by hand from document 01.
-// Kept: the exported functions answer numbers and take settings one by one; the three checks are such a call each, and hand out different types.
+// Kept: the exported functions answer numbers and take settings one by one. One function for the three checks would be lent each call as a
+// closure, which spreads the settings over the five arguments as the checks do now, and would save of each check the line `let mut` alone.
 use crate::lent::{BEFORE, BOUNDS_BEFORE, TALL, WIDE, faulty};
 use pyramid::Settings;
 use test_support::reporting::Checks;

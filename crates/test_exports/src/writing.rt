@@ -18,7 +18,7 @@ pub(crate) struct Contents<'a> {
 // they were; a refused one leaves all as it was.
 pub(crate) fn gives(c: Contents, room: usize, refusal: u16, file: &[u8]) -> bool {
     let s = c.settings;
-    let r = c.readings;
+    let [drier, press] = c.readings;
     let mut out: [u8; 176] = [0; 176];
     let mut size = usize::from(BEFORE);
     fill(&mut out, byte_filler);
@@ -29,10 +29,10 @@ pub(crate) fn gives(c: Contents, room: usize, refusal: u16, file: &[u8]) -> bool
         s.depth,
         s.kernel,
         &s.bins,
-        r.drier_kind,
-        r.drier_number,
-        r.press_kind,
-        r.press_number,
+        drier.kind,
+        drier.number,
+        press.kind,
+        press.number,
         c.levels,
         &mut out[..n],
         &mut size,
