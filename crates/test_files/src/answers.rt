@@ -1,9 +1,10 @@
-// What a call is to answer, a value or the number of a refusal, and how its answer differs.
+// What a call is to answer, a value or a refusal, and how its answer differs.
 use crate::parts::{Finding, Part};
 use bale::{Bale, Code, Reading};
 use pyramid::Settings;
 use refusals::Refusal;
 use test_support::comparing::first_difference;
+use test_support::numbered::answer_of;
 use test_support::{answers, decoding};
 
 // What a file holds: settings, and the kinds and the numbers of two readings.
@@ -32,13 +33,9 @@ pub(crate) fn held_in(said: &[u8]) -> Held {
     }
 }
 
-// What a call is to answer: a value, or where the number is not 0 the refusal of that number.
-// Kept: the number of a refusal, as the vectors and document 01 have it: a test states it without the names of the product.
-pub(crate) fn expected<T: Copy>(number: u16, value: T) -> Result<T, u16> {
-    match number {
-        0 => Ok(value),
-        refusal => Err(refusal),
-    }
+// What a call is to answer where the first fault of a set has this number, and a value where there is none.
+pub(crate) fn expected<T: Copy>(number: u16, value: T) -> Result<T, Refusal> {
+    answer_of(number, value).unwrap_or(Ok(value))
 }
 
 // C, R, N, k and then the bins.
@@ -85,6 +82,6 @@ fn compare_bale(b: Bale, e: Held) -> Option<Finding> {
 
 // The first difference of a reader's answer: the refusal, a setting, a reading.
 // Kept: what it shares with test_pgm is `answers::compare`; the values, and how they are compared, differ.
-pub(crate) fn compare(got: Result<Bale, Refusal>, e: Result<Held, u16>) -> Option<Finding> {
-    answers::compare(Part::Refusal, got, e, compare_bale)
+pub(crate) fn compare(got: Result<Bale, Refusal>, e: Result<Held, Refusal>) -> Option<Finding> {
+    answers::compare(Part::Refusal, got, e.map_err(u16::from), compare_bale)
 }

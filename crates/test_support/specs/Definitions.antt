@@ -6,3 +6,4 @@ pub mod FaultSets
 pub mod FaultySettings
 pub mod Rooms
 pub mod Answers
+pub mod Sizes
