@@ -22,10 +22,3 @@ pub(crate) fn compare(
 ) -> Option<Finding> {
     answers::compare(Part::Refusal, got, e, compare_sides)
 }
-
-// The first difference of a file's size.
-pub(crate) fn compare_size(got: Result<usize, Refusal>, e: Result<usize, u16>) -> Option<Finding> {
-    answers::compare(Part::Refusal, got, e, |size, e| {
-        (size != e).then_some(Finding::of_part(Part::Size, size))
-    })
-}

@@ -2,12 +2,14 @@
 use crate::answers;
 use crate::parts::{Call, Finding, MOST_PIXELS, MOST_PLACES, Part};
 use pgm::PictureSize;
+use refusals::Refusal;
 use test_support::comparing::first_difference;
 use test_support::fillers::{byte_filler, fill, first_changed};
 use test_support::reporting::of_call;
 use test_support::rooms::Room;
 
 // What a file is to be read to, and the pixels that it is said to hold.
+// Kept: a refusal is the number that the vectors and the sets of faults hold.
 #[derive(Clone, Copy)]
 pub(crate) struct Case<'a> {
     pub expected: Result<PictureSize, u16>,
@@ -16,21 +18,24 @@ pub(crate) struct Case<'a> {
 }
 
 // What a reader leaves in the picture: of an accepted file its pixels, of a refused one nothing.
-fn compare_picture(is_accepted: bool, pixels: &[u8], picture: &[u8]) -> Option<Finding> {
-    if is_accepted {
-        let pixel = first_difference(pixels, picture, picture.len());
-        return Finding::compared(Part::Pixel, pixel);
+fn compare_picture(c: Case, picture: &[u8]) -> Option<Finding> {
+    match c.expected {
+        Ok(_) => {
+            let pixel = first_difference(c.pixels, picture, picture.len());
+            Finding::compared(Part::Pixel, pixel)
+        }
+        Err(_) => {
+            let kept = first_changed(picture, 0, byte_filler);
+            Finding::compared(Part::KeptPixel, kept)
+        }
     }
-    let kept = first_changed(picture, 0, byte_filler);
-    Finding::compared(Part::KeptPixel, kept)
 }
 
 // The reader that is lent a filled picture.
 fn check_reading(c: Case, picture: &mut [u8]) -> Option<Finding> {
     fill(picture, byte_filler);
     let got = pgm::read_pgm(c.file, picture);
-    let left = compare_picture(c.expected.is_ok(), c.pixels, picture);
-    answers::compare(got, c.expected).or(left)
+    answers::compare(got, c.expected).or(compare_picture(c, picture))
 }
 
 // The same with so many places.
@@ -56,10 +61,10 @@ fn check_room(room: Room, c: Case) -> Option<Finding> {
     check_places(Call::Reading(room), c, room.places(needed, 1))
 }
 
-// Both readers, and the second with one place more and one fewer: 5 where the file is accepted.
+// Both readers, and the second with one place more and one fewer, which is refused where the file is accepted.
 pub(crate) fn check_read(c: Case) -> Option<Finding> {
     let other = Case {
-        expected: c.expected.and(Err(5)),
+        expected: c.expected.and(Err(u16::from(Refusal::PictureLength))),
         ..c
     };
     check_checking(c)

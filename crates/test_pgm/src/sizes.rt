@@ -1,12 +1,14 @@
 // Sizes and writings of every two sides that are at the ends of their range, beside it or at the ends of their type. What they are to be is worked by hand.
+use crate::parts;
 use crate::parts::{Call, Finding, MOST_PIXELS, MOST_PLACES, Part};
 use crate::writers::{AFTER, MOST_ROOM};
-use crate::{answers, parts};
+use refusals::Refusal;
 use test_support::comparing::first_difference;
 use test_support::fillers::{byte_filler, fill, first_changed};
 use test_support::reading::rest;
 use test_support::reporting::{Tally, of_call};
 use test_support::rooms::Room;
+use test_support::sizes::compare_size;
 
 // The number of pixels, the place of the first and the size of the file.
 #[derive(Clone, Copy)]
@@ -23,12 +25,12 @@ const SMALLEST: Layout = Layout {
     size: 15,
 };
 
-// Two sides, and the layout of their file or refusal 1.
+// Two sides, and the layout of their file, or the refusal of the size.
 #[derive(Clone, Copy)]
 struct Worked {
     columns: u16,
     rows: u16,
-    layout: Result<Layout, u16>,
+    layout: Result<Layout, Refusal>,
 }
 
 impl Worked {
@@ -54,7 +56,7 @@ fn worked_of(columns: u16, rows: u16) -> Worked {
             start: 15,
             size: 16656,
         }),
-        _ => Err(1),
+        _ => Err(Refusal::Size),
     };
     Worked {
         columns,
@@ -74,13 +76,14 @@ fn header(columns: u16, rows: u16) -> [u8; 15] {
 }
 
 // What a call is to answer that answers the file's size.
-fn size_of(layout: Result<Layout, u16>) -> Result<usize, u16> {
+fn size_of(layout: Result<Layout, Refusal>) -> Result<usize, Refusal> {
     layout.map(|layout| usize::from(layout.size))
 }
 
 fn check_size(w: Worked) -> Option<Finding> {
     let got = pgm::pgm_size(w.columns, w.rows);
-    of_call(Call::Sizing, answers::compare_size(got, size_of(w.layout)))
+    let size = compare_size(Part::Refusal, Part::Size, got, size_of(w.layout));
+    of_call(Call::Sizing, size)
 }
 
 pub(crate) fn check_sizes() -> Tally<Finding> {
@@ -115,12 +118,12 @@ impl Lent {
             .map_or(0, |room| room.places(usize::from(size), AFTER))
     }
 
-    // What is written, or the first of 1, 5 and 8.
-    fn written(self, w: Worked) -> Result<Layout, u16> {
+    // What is written, or the first refusal: of the size, of the picture, of the file.
+    fn written(self, w: Worked) -> Result<Layout, Refusal> {
         match (self.picture, self.file) {
             (Room::Exact, Some(Room::Exact | Room::Longer)) => w.layout,
-            (Room::Exact, _) => w.layout.and(Err(8)),
-            _ => w.layout.and(Err(5)),
+            (Room::Exact, _) => w.layout.and(Err(Refusal::FileLength)),
+            _ => w.layout.and(Err(Refusal::PictureLength)),
         }
     }
 }
@@ -139,7 +142,7 @@ fn compare_file(w: Worked, layout: Layout, picture: &[u8], out: &[u8]) -> Option
 // What a writing leaves: a refused one all as it was.
 fn compare_left(
     w: Worked,
-    written: Result<Layout, u16>,
+    written: Result<Layout, Refusal>,
     picture: &[u8],
     out: &[u8],
 ) -> Option<Finding> {
@@ -154,13 +157,14 @@ fn compare_left(
 
 fn check_lent(
     w: Worked,
-    written: Result<Layout, u16>,
+    written: Result<Layout, Refusal>,
     picture: &[u8],
     out: &mut [u8],
 ) -> Option<Finding> {
     fill(out, byte_filler);
     let got = pgm::write_pgm(w.columns, w.rows, picture, out);
-    answers::compare_size(got, size_of(written)).or(compare_left(w, written, picture, out))
+    let size = compare_size(Part::Refusal, Part::Size, got, size_of(written));
+    size.or(compare_left(w, written, picture, out))
 }
 
 fn check_room(w: Worked, lent: Lent, picture: &[u8]) -> Option<Finding> {
@@ -177,7 +181,7 @@ fn check_writing(w: Worked, lent: Lent) -> Option<Finding> {
     check_room(w, lent, lent.picture_of(&pixels[..n]))
 }
 
-// Each picture and each buffer: every set of 1, 5 and 8.
+// Each picture and each buffer: every set of these refusals.
 fn count_writings(tally: &mut Tally<Finding>, w: Worked) {
     for file in [
         Some(Room::Exact),
