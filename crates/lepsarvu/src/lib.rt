@@ -218,7 +218,7 @@ fn code_of(reading: Reading) -> Code
 }
 
 // What a reader answers, into what it was lent.
-#[tactic(auto, unfolding(crate::specs::Inner::Given::given, refusals::specs::Definitions::Outcomes::answer_number))]
+#[tactic(auto, unfolding(crate::specs::Inner::Given::given, crate::specs::Definitions::Exports::kinds_of, crate::specs::Definitions::Exports::numbers_of, refusals::specs::Definitions::Outcomes::answer_number))]
 fn give_bale(
     answer: Result<Bale, Refusal>,
     shape: &mut [u16; 4],
