@@ -33,16 +33,17 @@ const SMALL_LEVELS: [i16; 7] = [1, -1, 256, -585, 585, -32, 0];
 // with the next besides.
 pub(crate) fn written() -> Checks {
     let r = SMALL_READINGS;
+    let file = &SMALL_FILE[..40];
     let mut t = Checks::new();
-    for (readings, places, room, refusal) in [
-        (r, 6, 40, 0),
-        (r, 6, 50, 0),
-        (r, 6, 39, 8),
-        (r, 6, 0, 8),
-        (r, 5, 39, 6),
-        (r, 7, 39, 6),
-        ([code(2, 0), code(1, 0)], 5, 39, 4),
-        ([code(2, 9), code(3, 0)], 5, 39, 4),
+    for (readings, places, room, e) in [
+        (r, 6, 40, Ok(file)),
+        (r, 6, 50, Ok(file)),
+        (r, 6, 39, Err(8)),
+        (r, 6, 0, Err(8)),
+        (r, 5, 39, Err(6)),
+        (r, 7, 39, Err(6)),
+        ([code(2, 0), code(1, 0)], 5, 39, Err(4)),
+        ([code(2, 9), code(3, 0)], 5, 39, Err(4)),
     ] {
         let n = places.min(7);
         let contents = Contents {
@@ -50,7 +51,7 @@ pub(crate) fn written() -> Checks {
             readings,
             levels: &SMALL_LEVELS[..n],
         };
-        t.check(writing::gives(contents, room, refusal, &SMALL_FILE[..40]));
+        t.check(writing::gives(contents, room, e));
     }
     t
 }
@@ -85,27 +86,26 @@ pub(crate) fn unset() -> Checks {
             readings: [code(3, 0), code(1, 0)],
             levels: &SMALL_LEVELS[..6],
         };
-        t.check(writing::gives(contents, 39, refusal, &SMALL_FILE[..40]));
+        t.check(writing::gives(contents, 39, Err(refusal)));
     }
     t
 }
 
 // What the readers are to hand out of a file with the small one's parts.
-fn expected(refusal: u16) -> Handed {
-    handed::expected(refusal, parts::small(7), SMALL_READINGS)
+fn expected(e: Result<(), u16>) -> Handed {
+    handed::expected(e, parts::small(7), SMALL_READINGS)
 }
 
 // Reads a file with so many places lent. That leaves the indices, or all places as they were.
-fn check_reading(t: &mut Checks, file: &[u8], places: usize, refusal: u16) {
+fn check_reading(t: &mut Checks, file: &[u8], places: usize, e: Result<(), u16>) {
     let before: [i16; 7] = array::from_fn(|i| index_filler(false, i));
     let mut levels = before;
     let n = places.min(7);
     let got = handed::by_reading(file, &mut levels[..n]);
-    t.check(got == expected(refusal));
-    t.check(if refusal == 0 {
-        first_difference(&levels, &SMALL_LEVELS, 6).is_none()
-    } else {
-        levels == before
+    t.check(got == expected(e));
+    t.check(match e {
+        Ok(()) => first_difference(&levels, &SMALL_LEVELS, 6).is_none(),
+        Err(_) => levels == before,
     });
 }
 
@@ -117,14 +117,14 @@ fn with_byte(place: usize, byte: u8) -> [u8; 41] {
 }
 
 // Both readers over the first bytes of such a file.
-fn check_both(t: &mut Checks, size: usize, place: usize, byte: u8, refusal: u16) {
+fn check_both(t: &mut Checks, size: usize, place: usize, byte: u8, e: Result<(), u16>) {
     let file = with_byte(place, byte);
     let n = size.min(41);
-    t.check(handed::by_checking(&file[..n]) == expected(refusal));
-    check_reading(t, &file[..n], 6, refusal);
+    t.check(handed::by_checking(&file[..n]) == expected(e));
+    check_reading(t, &file[..n], 6, e);
 }
 
-// How many bytes of the small file are read, a place and the byte there, and the answer: cut in each section, with a byte more; then
+// How many bytes of the small file are read, a place and the byte there, and the refusal: cut in each section, with a byte more; then
 // a fault in each section.
 const SMALL: [(usize, usize, u8, u16); 20] = [
     (0, 0, 4, 9),
@@ -152,11 +152,11 @@ const SMALL: [(usize, usize, u8, u16); 20] = [
 // The file, and with more and fewer places; then what is refused.
 pub(crate) fn small() -> Checks {
     let mut t = Checks::new();
-    check_both(&mut t, 40, 0, 4, 0);
-    check_reading(&mut t, &SMALL_FILE[..40], 7, 6);
-    check_reading(&mut t, &SMALL_FILE[..40], 5, 6);
+    check_both(&mut t, 40, 0, 4, Ok(()));
+    check_reading(&mut t, &SMALL_FILE[..40], 7, Err(6));
+    check_reading(&mut t, &SMALL_FILE[..40], 5, Err(6));
     for (size, place, byte, refusal) in SMALL {
-        check_both(&mut t, size, place, byte, refusal);
+        check_both(&mut t, size, place, byte, Err(refusal));
     }
     t
 }

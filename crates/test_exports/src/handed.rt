@@ -36,11 +36,11 @@ pub(crate) fn accepted(s: Settings, r: Readings) -> Handed {
     }
 }
 
-// What is to be handed out where the answer is 0, or a refusal.
-pub(crate) fn expected(answer: u16, s: Settings, r: Readings) -> Handed {
-    match answer {
-        0 => accepted(s, r),
-        refusal => refused(refusal),
+// What is to be handed out where the call is accepted, or refused.
+pub(crate) fn expected(e: Result<(), u16>, s: Settings, r: Readings) -> Handed {
+    match e {
+        Ok(()) => accepted(s, r),
+        Err(refusal) => refused(refusal),
     }
 }
 

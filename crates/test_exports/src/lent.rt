@@ -23,6 +23,20 @@ pub(crate) const WIDE: Settings = Settings {
 // Kept: no kind, but what a number is before a call: it differs from all that are handed out.
 pub(crate) const BEFORE: u16 = 60001;
 
+// Whether a call answers 0 and leaves the value that is expected, or answers the refusal that is, and leaves what was there before.
+// Kept: a refusal is the number that the exported function answers.
+pub(crate) fn is_left<T: PartialEq + Copy>(
+    answer: u16,
+    left: T,
+    before: T,
+    e: Result<T, u16>,
+) -> bool {
+    match e {
+        Ok(value) => answer == 0 && left == value,
+        Err(refusal) => answer == refusal && left == before,
+    }
+}
+
 // What lent bounds hold before a call.
 pub(crate) const BOUNDS_BEFORE: [u16; 7] = [60011, 60012, 60013, 60014, 60015, 60016, 60017];
 
