@@ -1,5 +1,5 @@
 -- What a call answers as a number, and what is left where a caller lent room for a part of its answer. Assumes nothing.
-use Rattle.std.proofs.Common.{◌≡◌, refl, sym, ap, ◌∙◌, Bool, true, false, cond, List, [], ◌∷◌, ℕ, zero, suc, ◌≤◌, leb, Result, Ok, Err, arith}
+use Rattle.std.proofs.Common.{◌≡◌, refl, ap, ◌∙◌, Bool, true, false, cond, List, [], ◌∷◌, ℕ, zero, suc, ◌≤◌, leb, Result, arith}
 use borrow.Author.Tests.{leb-true}
 use lib.Dec.{T, eqb}
 use Rattle.std.proofs.lemmas.Bool.{eqb-true}

@@ -90,8 +90,8 @@ pub(crate) fn indices() -> Checks {
     t
 }
 
-// A kind, a number and whether they are refused: not fitted with 0 and other numbers; 0 and 100 percent, the smallest, those next above 100 and
-// below 0, an infinity, a NaN; fault codes of 1 to 255; other kinds.
+// A kind, a number and whether they are refused: not fitted with 0 and other numbers; 0 and 100 percent, the smallest, those next above
+// 100 and below 0, an infinity, a NaN; fault codes of 1 to 255; other kinds.
 const READINGS: [(u8, u32, Result<(), u16>); 19] = [
     (0, 0, Ok(())),
     (0, 1, Err(4)),

@@ -5,6 +5,7 @@ use pyramid::Settings;
 // The codes of the readings, before the drier first, in the order in which the exported functions hand them out.
 pub(crate) type Readings = [Code; 2];
 
+// Kept: a kind is the byte that the exported functions take and hand out.
 pub(crate) fn code(kind: u8, number: u32) -> Code {
     Code { kind, number }
 }

@@ -1,16 +1,15 @@
 // PGM files that are read. What their headers mean is document 02's (P2).
 // Kept: refusals are numbers, since the exported functions answer numbers; `places` is the length of a buffer lent beside the file.
-use crate::lent::BEFORE;
-use crate::pgm_writing::Picture;
-use crate::{lent, pgm_writing};
+use crate::lent::{BEFORE, is_left};
+use crate::pgm_writing::{Picture, holds};
 use lepsarvu::pictures;
 use test_support::fillers::{byte_filler, fill};
 use test_support::reporting::Checks;
 
-// The sides that a reader leaves: those of a picture; a refused one leaves them as they were.
-fn is_left(answer: u16, columns: u16, rows: u16, e: Result<Picture, u16>) -> bool {
+// Whether a reader answers and leaves the sides of a picture, or is refused and leaves them as they were.
+fn are_sides(answer: u16, columns: u16, rows: u16, e: Result<Picture, u16>) -> bool {
     let sides = e.map(|p| (p.columns, p.rows));
-    lent::is_left(answer, (columns, rows), (BEFORE, BEFORE), sides)
+    is_left(answer, (columns, rows), (BEFORE, BEFORE), sides)
 }
 
 // A reading into so many places of a filled buffer. A refused one puts no pixels there.
@@ -21,8 +20,8 @@ fn check_reading(t: &mut Checks, file: &[u8], places: usize, e: Result<Picture, 
     fill(&mut picture, byte_filler);
     let n = places.min(40);
     let answer = pictures::lepsarvu_read_pgm(file, &mut picture[..n], &mut columns, &mut rows);
-    t.check(is_left(answer, columns, rows, e));
-    t.check(pgm_writing::is_left(&picture, e.map_or(&[], |p| p.pixels)));
+    t.check(are_sides(answer, columns, rows, e));
+    t.check(holds(&picture, e.map_or(&[], |p| p.pixels)));
 }
 
 // The reader that is lent no picture, then the other.
@@ -30,7 +29,7 @@ fn check_both(t: &mut Checks, file: &[u8], places: usize, e: Result<Picture, u16
     let mut columns = BEFORE;
     let mut rows = BEFORE;
     let answer = pictures::lepsarvu_check_pgm(file, &mut columns, &mut rows);
-    t.check(is_left(answer, columns, rows, e));
+    t.check(are_sides(answer, columns, rows, e));
     check_reading(t, file, places, e);
 }
 

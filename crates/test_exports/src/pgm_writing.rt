@@ -1,7 +1,6 @@
 // PGM pictures that are written, byte after byte as document 02 has them (P2).
 // Kept: refusals are numbers, since the exported functions answer numbers.
-use crate::lent;
-use crate::lent::BEFORE;
+use crate::lent::{BEFORE, is_left};
 use lepsarvu::pictures;
 use test_support::comparing::first_difference;
 use test_support::fillers::{byte_filler, fill, first_changed};
@@ -27,13 +26,13 @@ pub(crate) fn sizes() -> Checks {
         let before = usize::from(BEFORE);
         let mut size = before;
         let answer = pictures::lepsarvu_pgm_size(columns, rows, &mut size);
-        t.check(lent::is_left(answer, size, before, e));
+        t.check(is_left(answer, size, before, e));
     }
     t
 }
 
 // Whether a filled buffer starts with these bytes, and keeps its fillers after them. No byte that is tried is the filler of its place.
-pub(crate) fn is_left(buffer: &[u8; 40], bytes: &[u8]) -> bool {
+pub(crate) fn holds(buffer: &[u8; 40], bytes: &[u8]) -> bool {
     let n = bytes.len();
     first_difference(buffer, bytes, n).is_none() && first_changed(buffer, n, byte_filler).is_none()
 }
@@ -61,8 +60,8 @@ pub(crate) fn check(t: &mut Checks, p: Picture, room: usize, e: Result<&[u8], u1
         &mut size,
     );
     let length = e.map(|file| file.len());
-    t.check(lent::is_left(answer, size, before, length));
-    t.check(is_left(&out, e.unwrap_or(&[])));
+    t.check(is_left(answer, size, before, length));
+    t.check(holds(&out, e.unwrap_or(&[])));
 }
 
 // A picture, the bytes that are lent, and the file: the exact bytes, and more; piece A; sides of two digits.

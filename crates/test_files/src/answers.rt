@@ -5,6 +5,7 @@ use pyramid::Settings;
 use refusals::Refusal;
 use test_support::comparing::first_difference;
 use test_support::numbered::answer_of;
+use test_support::reading::rest;
 use test_support::{answers, decoding};
 
 // What a file holds: settings, and the kinds and the numbers of two readings.
@@ -16,11 +17,10 @@ pub(crate) struct Held {
 }
 
 // A reading in five bytes: its kind and its number.
-fn code_at(said: &[u8], at: u16) -> Code {
-    let at = usize::from(at);
+fn code_in(bytes: &[u8]) -> Code {
     Code {
-        kind: decoding::byte_at(said, at),
-        number: decoding::unsigned32_at(said, at + 1),
+        kind: decoding::byte_at(bytes, 0),
+        number: decoding::unsigned32_at(bytes, 1),
     }
 }
 
@@ -28,12 +28,13 @@ fn code_at(said: &[u8], at: u16) -> Code {
 pub(crate) fn held_in(said: &[u8]) -> Held {
     Held {
         settings: decoding::settings_of(said),
-        before_drier: code_at(said, 22),
-        at_press: code_at(said, 27),
+        before_drier: code_in(rest(said, 22)),
+        at_press: code_in(rest(said, 27)),
     }
 }
 
 // What a call is to answer where the first fault of a set has this number, and a value where there is none.
+// Kept: a set of faults says its first as a number.
 pub(crate) fn expected<T: Copy>(number: u16, value: T) -> Result<T, Refusal> {
     answer_of(number, value).unwrap_or(Ok(value))
 }
@@ -48,10 +49,7 @@ fn numbers(s: Settings) -> [u16; 11] {
 
 // A float that is at most 100 is no NaN, and has bits.
 fn has_bits(x: f32, bits: u32) -> bool {
-    if x <= 100.0 {
-        return f32::to_bits(x) == bits;
-    }
-    false
+    x <= 100.0 && f32::to_bits(x) == bits
 }
 
 // By what the reading holds, and not by what `reading_code` says of it.
@@ -64,20 +62,15 @@ pub(crate) fn is_held(reading: Reading, code: Code) -> bool {
 }
 
 // Reading 0 before the drier, reading 1 at the press.
-fn compare_readings(b: Bale, e: Held) -> Option<Finding> {
-    let note = b.note;
-    if !is_held(note.before_drier, e.before_drier) {
-        return Some(Finding::of_part(Part::ReadingHeld, 0));
-    }
-    if !is_held(note.at_press, e.at_press) {
-        return Some(Finding::of_part(Part::ReadingHeld, 1));
-    }
-    None
-}
-
 fn compare_bale(b: Bale, e: Held) -> Option<Finding> {
     let setting = first_difference(&numbers(b.settings), &numbers(e.settings), 11);
-    Finding::compared(Part::Setting, setting).or(compare_readings(b, e))
+    let note = b.note;
+    let held = [
+        is_held(note.before_drier, e.before_drier),
+        is_held(note.at_press, e.at_press),
+    ];
+    let reading = held.iter().position(|is_held| !*is_held);
+    Finding::compared(Part::Setting, setting).or(Finding::compared(Part::ReadingHeld, reading))
 }
 
 // The first difference of a reader's answer: the refusal, a setting, a reading.

@@ -4,14 +4,16 @@ use pgm::PictureSize;
 use refusals::Refusal;
 use test_support::answers;
 
+fn compare_side(side: Part, got: u16, e: u16) -> Option<Finding> {
+    (got != e).then_some(Finding::of_part(side, usize::from(got)))
+}
+
 fn compare_sides(got: PictureSize, e: PictureSize) -> Option<Finding> {
-    if got.columns != e.columns {
-        return Some(Finding::of_part(Part::Columns, usize::from(got.columns)));
-    }
-    if got.rows != e.rows {
-        return Some(Finding::of_part(Part::Rows, usize::from(got.rows)));
-    }
-    None
+    compare_side(Part::Columns, got.columns, e.columns).or(compare_side(
+        Part::Rows,
+        got.rows,
+        e.rows,
+    ))
 }
 
 // The first difference of a reader's answer.

@@ -74,8 +74,5 @@ pub(crate) type Finding = reporting::Finding<Spot<Call, Part>>;
 
 // All bytes but the last; none where there is none.
 pub(crate) fn but_last(bytes: &[u8]) -> &[u8] {
-    match bytes.split_last() {
-        Some((_, others)) => others,
-        None => bytes,
-    }
+    &bytes[..bytes.len().saturating_sub(1)]
 }

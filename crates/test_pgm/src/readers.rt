@@ -54,9 +54,10 @@ pub(crate) fn check_checking(c: Case) -> Option<Finding> {
 
 // The second reader with as many places as the file has pixels, or some where it is refused; or one more or fewer.
 fn check_room(room: Room, c: Case) -> Option<Finding> {
-    let needed = match c.pixels.len() {
-        0 => 4,
-        n => n.min(MOST_PIXELS),
+    let needed = if c.pixels.is_empty() {
+        4
+    } else {
+        c.pixels.len().min(MOST_PIXELS)
     };
     check_places(Call::Reading(room), c, room.places(needed, 1))
 }

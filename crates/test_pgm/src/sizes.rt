@@ -13,9 +13,9 @@ use test_support::sizes::compare_size;
 // The number of pixels, the place of the first and the size of the file.
 #[derive(Clone, Copy)]
 struct Layout {
-    pixels: u16,
-    start: u16,
-    size: u16,
+    pixels: usize,
+    start: usize,
+    size: usize,
 }
 
 // The one of 2 by 2, whose lengths are lent for sides that have none.
@@ -77,7 +77,7 @@ fn header(columns: u16, rows: u16) -> [u8; 15] {
 
 // What a call is to answer that answers the file's size.
 fn size_of(layout: Result<Layout, Refusal>) -> Result<usize, Refusal> {
-    layout.map(|layout| usize::from(layout.size))
+    layout.map(|layout| layout.size)
 }
 
 fn check_size(w: Worked) -> Option<Finding> {
@@ -113,9 +113,8 @@ impl Lent {
         }
     }
 
-    fn room(self, size: u16) -> usize {
-        self.file
-            .map_or(0, |room| room.places(usize::from(size), AFTER))
+    fn room(self, size: usize) -> usize {
+        self.file.map_or(0, |room| room.places(size, AFTER))
     }
 
     // What is written, or the first refusal: of the size, of the picture, of the file.
@@ -130,10 +129,9 @@ impl Lent {
 
 // What an accepted writing leaves: a header, the pixels, and the bytes after them as they were.
 fn compare_file(w: Worked, layout: Layout, picture: &[u8], out: &[u8]) -> Option<Finding> {
-    let start = usize::from(layout.start);
-    let byte = first_difference(&header(w.columns, w.rows), out, start);
-    let pixel = first_difference(picture, rest(out, start), usize::from(layout.pixels));
-    let kept = first_changed(out, usize::from(layout.size), byte_filler);
+    let byte = first_difference(&header(w.columns, w.rows), out, layout.start);
+    let pixel = first_difference(picture, rest(out, layout.start), layout.pixels);
+    let kept = first_changed(out, layout.size, byte_filler);
     Finding::compared(Part::Byte, byte)
         .or(Finding::compared(Part::Pixel, pixel))
         .or(Finding::compared(Part::KeptByte, kept))
@@ -177,7 +175,7 @@ fn check_room(w: Worked, lent: Lent, picture: &[u8]) -> Option<Finding> {
 fn check_writing(w: Worked, lent: Lent) -> Option<Finding> {
     let mut pixels: [u8; MOST_PLACES] = [0; MOST_PLACES];
     fill(&mut pixels, byte_filler);
-    let n = usize::from(w.lent().pixels).min(MOST_PIXELS) + 1;
+    let n = w.lent().pixels.min(MOST_PIXELS) + 1;
     check_room(w, lent, lent.picture_of(&pixels[..n]))
 }
 

@@ -4,6 +4,7 @@ ghost use Rattle.refusals.specs.Definitions.Outcomes.{outcome};
 
 use refusals::Refusal;
 
+// Kept: a refusal is a number here, since another implementation's data hold it: this is where it becomes a `Refusal`.
 // What a number stands for: this value, or a refusal; nothing where the documents have no such number.
 #[tactic(auto, unfolding(refusals::specs::Definitions::Outcomes::outcome))]
 pub fn answer_of<T: Copy>(number: u16, value: T) -> Option<Result<T, Refusal>>
