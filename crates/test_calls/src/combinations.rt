@@ -62,7 +62,7 @@ fn lengths(faults: Faults) -> Lengths {
 
 fn gives_first(call: Call, faults: Faults) -> bool {
     let s = faults.put_in(BASE);
-    let answer = faults.first().map_or(Ok(()), Err);
+    let answer = faults.answer(());
     calling::gives(call, s, lengths(faults), Some(put(faults)), answer)
 }
 

@@ -1,5 +1,7 @@
 // Coding and rebuilding that are refused, with what they leave: all as it was.
-// Kept: refusals are numbers, since the exported functions answer numbers; either the settings are faulty or the lengths, so they stand apart.
+// Kept: refusals are numbers, since the exported functions answer numbers. One function for both calls would hold all three buffers, be lent
+// the call as a closure, and compare what the other call only reads: coding reads the picture and writes the levels, rebuilding writes the
+// picture and reads the levels.
 use crate::lent::faulty;
 use crate::pictures::{NODES, PIXELS, SETTINGS};
 use pyramid::Settings;

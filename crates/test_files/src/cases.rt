@@ -5,6 +5,7 @@ use crate::reading::Head;
 use crate::{answers, readers, reading, writers};
 use std::io;
 use std::io::Read;
+use test_support::numbered::answer_of;
 use test_support::reading::{check_cases, read_exactly};
 use test_support::reporting::Tally;
 
@@ -22,8 +23,12 @@ fn check_said<R: Read>(data: &mut R, h: Head, file: &[u8]) -> io::Result<Option<
     let mut said: [u8; 32] = [0; 32];
     let mut indices: [u8; 44718] = [0; 44718];
     let is_read = reading::read_said(data, h, &mut said, &mut indices)?;
+    let Some(expected) = answer_of(h.refusal, answers::held_in(&said)) else {
+        let number = usize::from(h.refusal);
+        return Ok(Some(Finding::of_part(Part::UnknownRefusal, number)));
+    };
     let case = Case {
-        expected: answers::expected(h.refusal, answers::held_in(&said)),
+        expected,
         file,
         nodes: h.nodes,
         indices: &indices,

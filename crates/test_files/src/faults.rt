@@ -47,21 +47,13 @@ fn lent_levels(fault: Option<Variant>) -> [i16; 14] {
     levels
 }
 
-// What a set is to give: a value, or where it has a fault the number of the first.
-fn expected<T: Copy>(faults: Faults, value: T) -> Result<T, u16> {
-    match faults.first() {
-        Some(refusal) => Err(u16::from(refusal)),
-        None => Ok(value),
-    }
-}
-
 // The size of a file of settings with those of the faults that are the settings'.
 fn check_size(faults: Faults, s: Settings) -> Option<Finding> {
     let own = Faults {
         bits: faults.bits % 64,
         ..faults
     };
-    writers::check_size(s, expected(own, 58))
+    writers::check_size(s, own.answer(58))
 }
 
 // Lends the first places of the levels, or with their fault one fewer or more; and the first bytes of a buffer, as many as the file
@@ -81,7 +73,7 @@ fn check_set(faults: Faults) -> Option<Finding> {
         levels: &levels[..places],
     };
     let file = piece_a::file();
-    let e = expected(faults, file.as_slice());
+    let e = faults.answer(file.as_slice());
     let found = writers::check_writing(e, written, &mut out[..room]);
     check_size(faults, written.settings).or(found)
 }

@@ -62,15 +62,12 @@ fn file_with(faults: Faults) -> [u8; 20] {
     file
 }
 
-// The size of the file, or the number of the first fault of the set.
-fn expected(faults: Faults) -> Result<PictureSize, u16> {
-    match faults.first() {
-        Some(refusal) => Err(u16::from(refusal)),
-        None => Ok(PictureSize {
-            columns: 2,
-            rows: 2,
-        }),
-    }
+// The size of the file, or the first fault of the set.
+fn expected(faults: Faults) -> Result<PictureSize, Refusal> {
+    faults.answer(PictureSize {
+        columns: 2,
+        rows: 2,
+    })
 }
 
 // The file, or with its fault a pixel fewer and one more, none, and 9; and of the picture its places, or with their fault one more and

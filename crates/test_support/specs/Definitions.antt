@@ -7,3 +7,4 @@ pub mod FaultySettings
 pub mod Rooms
 pub mod Cases
 pub mod Answers
+pub mod Sizes

@@ -1,6 +1,6 @@
 // Sets of faults: one bit for each refusal of a table, the lowest bit for the first. A fault has four variants.
 ghost use Rattle.std.specs.Prelude.{◌≡◌, ℕ, cond, ◌*◌, ◌/◌, ◌%◌, ◌<◌, min, Option, Some, slice_get};
-ghost use Rattle.test_support.specs.Definitions.FaultSets.{chosen, member, first, place, variant_at, variant_of};
+ghost use Rattle.test_support.specs.Definitions.FaultSets.{chosen, member, first, answer_with, place, variant_at, variant_of};
 ghost use Rattle.test_support.specs.Definitions.FaultySettings.{outside, side_with, with_sides, with_depth, with_kernel, with_bins, with_faults};
 ghost use Rattle.test_support.specs.Definitions.Tallies.{tallied};
 
@@ -60,6 +60,16 @@ impl<'a> Faults<'a> {
             bits /= 2;
         }
         None
+    }
+
+    // What is faulty so is to answer: its first fault, or this value where it has none.
+    pub fn answer<T: Copy>(&self, value: T) -> Result<T, Refusal>
+        ensures { result ≡ answer_with value (chosen self.now.bits self.now.table.now) }
+    {
+        match self.first() {
+            Some(refusal) => Err(refusal),
+            None => Ok(value),
+        }
     }
 
     // The variant of a fault that is in the set.

@@ -1,5 +1,5 @@
 -- Sets of faults: one bit for each refusal of a table, the lowest bit for the first; and the variants of a fault. Assumes nothing.
-use Rattle.std.specs.Prelude.{Bool, true, false, cond, List, [], ◌∷◌, ℕ, ◌/◌, ◌%◌, eqb, get_or, Option, None, Some}
+use Rattle.std.specs.Prelude.{Bool, true, false, cond, List, [], ◌∷◌, ℕ, ◌/◌, ◌%◌, eqb, get_or, Option, None, Some, Result, Ok, Err}
 use Rattle.refusals.specs.declared.Refusal.{Refusal}
 use Rattle.refusals.specs.Definitions.Numbers.{number}
 use Rattle.test_support.specs.declared.faults.Variant.{Variant}
@@ -19,6 +19,11 @@ member fault (r ∷ rs) = cond (eqb (number r) (number fault)) true (member faul
 abbrev pub first : List Refusal → Option Refusal
 first [] = None
 first (r ∷ rs) = Some r
+
+-- what is answered where faults are a list: the first, or this value where there is none
+abbrev pub answer_with : {A : Type 0} → A → List Refusal → Result A Refusal
+answer_with value [] = Ok value
+answer_with value (r ∷ rs) = Err r
 
 -- the variants in their order, from 0
 abbrev pub place : Variant → ℕ
