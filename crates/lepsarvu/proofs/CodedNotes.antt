@@ -2,7 +2,6 @@
 use mathlib.Core.Path.{◌≡◌, refl, sym, ap, ◌∙◌}
 use mathlib.Core.List.{List, [], ◌∷◌}
 use Prim.Native.Nat.{ℕ, zero, suc, ◌≤◌}
-use native.Mathlib.Omega.{arith}
 use lib.IntN.{ℤ}
 use lib.ListN.{length}
 use Rattle.refusals.specs.Definitions.Outcomes.{outcome}
@@ -13,7 +12,6 @@ use Rattle.pyramid.specs.Checks.Numbers.{settings_numbers}
 use Rattle.pyramid.proofs.Numbers.{pyramid_numbers}
 use Rattle.pyramid.proofs.Refusals.{first_stop, first_skip, first-last, leaves_kept, outcome_left}
 use Rattle.bale.specs.declared.Note.{Note}
-use Rattle.bale.specs.declared.Reading.{Reading}
 use Rattle.bale.specs.Definitions.Readings.{decode}
 use Rattle.bale.specs.Definitions.Files.{file_length}
 use Rattle.bale.specs.Definitions.Calls.{write_refusal, write_file}

@@ -1,5 +1,5 @@
 -- What a call answers as a number, and what is left where a caller lent room for a part of its answer. Assumes nothing.
-use Rattle.std.proofs.Common.{◌≡◌, refl, sym, ap, ◌∙◌, Bool, true, false, cond, List, [], ◌∷◌, ℕ, zero, suc, ◌≤◌, leb, Result, Ok, Err, arith}
+use Rattle.std.proofs.Common.{◌≡◌, refl, ap, ◌∙◌, Bool, true, false, cond, List, [], ◌∷◌, ℕ, zero, suc, ◌≤◌, leb, Result, arith}
 use borrow.Author.Tests.{leb-true}
 use lib.Dec.{T, eqb}
 use Rattle.std.proofs.lemmas.Bool.{eqb-true}
@@ -8,7 +8,7 @@ use Rattle.refusals.specs.Definitions.Outcomes.{outcome, answer_number}
 use Rattle.refusals.proofs.Outcomes.{one_number_each}
 use Rattle.pyramid.specs.Definitions.Calls.{leaves}
 use Rattle.pyramid.specs.Checks.Numbers.{one_of}
-use Rattle.lepsarvu.specs.Definitions.Exports.{given}
+use Rattle.lepsarvu.specs.Inner.Given.{given}
 
 -- ---- a number that a call answers is one of the table's
 

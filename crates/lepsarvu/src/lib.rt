@@ -9,7 +9,8 @@ ghost use Rattle.pyramid.specs.Definitions.Answers.{nodes_answer, bounds_answer,
 ghost use Rattle.bale.specs.Definitions.Readings.{code_of, code_in};
 ghost use Rattle.bale.specs.Definitions.Files.{file_length};
 ghost use Rattle.bale.specs.Definitions.Calls.{size_answer, check_file, read_file};
-ghost use Rattle.lepsarvu.specs.Definitions.Exports.{settings_of, shape_of, kinds_of, numbers_of, given, coded_refusal, coded_file, coded_size};
+ghost use Rattle.lepsarvu.specs.Definitions.Exports.{settings_of, shape_of, kinds_of, numbers_of, coded_refusal, coded_file, coded_size};
+ghost use Rattle.lepsarvu.specs.Inner.Given.{given};
 
 use bale::{Bale, Code, Note, Reading};
 use pyramid::Settings;
@@ -30,7 +31,7 @@ fn settings(columns: u16, rows: u16, depth: u16, kernel: u16, bins: [u16; 7]) ->
 }
 
 // The number of an answer; what is answered goes where room was lent for it.
-#[tactic(auto, unfolding(crate::specs::Definitions::Exports::given, refusals::specs::Definitions::Outcomes::answer_number))]
+#[tactic(auto, unfolding(crate::specs::Inner::Given::given, refusals::specs::Definitions::Outcomes::answer_number))]
 pub(crate) fn give<T: Copy>(answer: Result<T, Refusal>, place: &mut T) -> u16
     ensures value { result ≡ answer_number answer }
     ensures place_after { place.new ≡ given answer (λ value. value) place.old }
@@ -217,7 +218,7 @@ fn code_of(reading: Reading) -> Code
 }
 
 // What a reader answers, into what it was lent.
-#[tactic(auto, unfolding(crate::specs::Definitions::Exports::given, refusals::specs::Definitions::Outcomes::answer_number))]
+#[tactic(auto, unfolding(crate::specs::Inner::Given::given, crate::specs::Definitions::Exports::kinds_of, crate::specs::Definitions::Exports::numbers_of, refusals::specs::Definitions::Outcomes::answer_number))]
 fn give_bale(
     answer: Result<Bale, Refusal>,
     shape: &mut [u16; 4],

@@ -4,7 +4,7 @@ ghost use Rattle.std.specs.Prelude.{◌≡◌};
 ghost use Rattle.refusals.specs.Definitions.Outcomes.{answer_number};
 ghost use Rattle.pyramid.specs.Definitions.Calls.{leaves};
 ghost use Rattle.pgm.specs.Definitions.Calls.{check_pgm, read_pgm, size_answer, write_pgm};
-ghost use Rattle.lepsarvu.specs.Definitions.Exports.{given};
+ghost use Rattle.lepsarvu.specs.Inner.Given.{given};
 
 use crate::give;
 use pgm::PictureSize;
@@ -35,7 +35,7 @@ pub fn lepsarvu_write_pgm(
 }
 
 // Width and height, into what was lent for them.
-#[tactic(auto, unfolding(crate::specs::Definitions::Exports::given, refusals::specs::Definitions::Outcomes::answer_number))]
+#[tactic(auto, unfolding(crate::specs::Inner::Given::given, refusals::specs::Definitions::Outcomes::answer_number))]
 fn give_picture_size(answer: Result<PictureSize, Refusal>, columns: &mut u16, rows: &mut u16) -> u16
     ensures value { result ≡ answer_number answer }
     ensures columns_after { columns.new ≡ given answer (λ size. size.columns) columns.old }

@@ -1,14 +1,6 @@
 // The buffers that are lent to a call.
 use std::array;
-use test_support::fillers::{byte_filler, index_filler, work_filler};
-
-// How many of their places are lent.
-#[derive(Clone, Copy)]
-pub(crate) struct Lengths {
-    pub picture: usize,
-    pub levels: usize,
-    pub work: usize,
-}
+use test_support::fillers::{byte_filler, lawful_index, work_filler};
 
 // An index put at a place of the level buffer before a call. For a rebuilding that is accepted the place is one of level 0, so
 // that the index changes one node alone: its value and its pixel, which are known.
@@ -39,7 +31,7 @@ impl Buffers {
     pub(crate) fn filled() -> Self {
         Buffers {
             picture: array::from_fn(byte_filler),
-            levels: array::from_fn(|i| index_filler(true, i)),
+            levels: array::from_fn(lawful_index),
             work: array::from_fn(work_filler),
         }
     }

@@ -1,11 +1,11 @@
 // Calls whose outcome is known at every place of every buffer. A call that is refused must leave all as it was; one that is
 // accepted is lent a picture of one grey, or the levels of such a picture.
-// Kept: an expected answer is a number of document 01 and no `Refusal`, so that the numbers of the product are tested too.
-use crate::buffers::{Buffers, Lengths, Put, set};
+use crate::buffers::{Buffers, Put, set};
 use pyramid::Settings;
-use refusals::answer_number;
+use refusals::Refusal;
 use std::array;
-use test_support::fillers::index_filler;
+use test_support::fillers::unlawful_index;
+use test_support::rooms::Lengths;
 
 // The two calls.
 // Kept: they differ in the order of what they take and in what they leave: an enum names them, and a match says each in its place.
@@ -15,23 +15,28 @@ pub(crate) enum Call {
     Rebuilding,
 }
 
-// The number that a call answers.
+// What a call answers.
 pub(crate) fn answer_of(
     call: Call,
     s: Settings,
     picture: &mut [u8],
     levels: &mut [i16],
     work: &mut [i32],
-) -> u16 {
-    answer_number(match call {
+) -> Result<(), Refusal> {
+    match call {
         Call::Coding => pyramid::coding(s, picture, levels, work),
         Call::Rebuilding => pyramid::rebuilding(s, levels, picture, work),
-    })
+    }
 }
 
 // What a call answers and leaves that is lent the first places of the buffers.
 // Kept: call, settings, lengths and index are named at each use of `gives`, and are taken one by one here: a struct would only lie between.
-fn outcome(call: Call, s: Settings, n: Lengths, buffers: Buffers) -> (u16, Buffers) {
+fn outcome(
+    call: Call,
+    s: Settings,
+    n: Lengths,
+    buffers: Buffers,
+) -> (Result<(), Refusal>, Buffers) {
     let mut picture = buffers.picture;
     let mut levels = buffers.levels;
     let mut work = buffers.work;
@@ -47,11 +52,11 @@ fn outcome(call: Call, s: Settings, n: Lengths, buffers: Buffers) -> (u16, Buffe
     (answer, left)
 }
 
-// Whether a call is refused with the answer, and leaves every place as it was, the index that was put among them.
-fn is_refused(call: Call, s: Settings, n: Lengths, put: Option<Put>, answer: u16) -> bool {
+// Whether a call is refused so, and leaves every place as it was, the index that was put among them.
+fn is_refused(call: Call, s: Settings, n: Lengths, put: Option<Put>, refusal: Refusal) -> bool {
     let mut buffers = Buffers::filled();
     buffers.put(put);
-    outcome(call, s, n, buffers) == (answer, buffers)
+    outcome(call, s, n, buffers) == (Err(refusal), buffers)
 }
 
 // A picture that is 200 everywhere: so is every average, since the weights of a step sum to 1; every difference is 0.
@@ -106,11 +111,11 @@ fn coded(before: Buffers, top: Top, nodes: usize) -> Buffers {
 fn coding_gives(s: Settings, n: Lengths) -> bool {
     let buffers = Buffers {
         picture: [GREY; 48],
-        levels: array::from_fn(|i| index_filler(false, i)),
+        levels: array::from_fn(unlawful_index),
         ..Buffers::filled()
     };
     let left = coded(buffers, Top::of(s), n.levels);
-    outcome(Call::Coding, s, n, buffers) == (0, left)
+    outcome(Call::Coding, s, n, buffers) == (Ok(()), left)
 }
 
 // What a rebuilding leaves: the values and the pixels; in the work buffer nothing more. Level 0 comes last.
@@ -141,16 +146,20 @@ fn rebuilding_gives(s: Settings, n: Lengths, put: Option<Put>) -> bool {
     };
     buffers.put(put);
     let left = rebuilt(buffers, top, n, put);
-    outcome(Call::Rebuilding, s, n, buffers) == (0, left)
+    outcome(Call::Rebuilding, s, n, buffers) == (Ok(()), left)
 }
 
 // Whether a call with buffers of these lengths gives the answer.
-pub(crate) fn gives(call: Call, s: Settings, n: Lengths, put: Option<Put>, answer: u16) -> bool {
-    if answer != 0 {
-        return is_refused(call, s, n, put, answer);
-    }
-    match call {
-        Call::Coding => coding_gives(s, n),
-        Call::Rebuilding => rebuilding_gives(s, n, put),
+pub(crate) fn gives(
+    call: Call,
+    s: Settings,
+    n: Lengths,
+    put: Option<Put>,
+    answer: Result<(), Refusal>,
+) -> bool {
+    match (answer, call) {
+        (Err(refusal), _) => is_refused(call, s, n, put, refusal),
+        (Ok(()), Call::Coding) => coding_gives(s, n),
+        (Ok(()), Call::Rebuilding) => rebuilding_gives(s, n, put),
     }
 }

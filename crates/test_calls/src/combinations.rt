@@ -1,13 +1,26 @@
-// Every set of faults, each fault in four variants: the first number of the set is the answer.
+// Every set of faults, each fault in four variants: the first of the set is the refusal.
 use crate::base::BASE;
-use crate::buffers::{Lengths, Put};
+use crate::buffers::Put;
 use crate::calling;
 use crate::calling::Call;
+use refusals::Refusal;
 use test_support::faults::{Faults, check_sets};
 use test_support::reporting::Checks;
+use test_support::rooms::Lengths;
 
-// The numbers of the faults in their order. Coding does not look for the last.
-const NUMBERS: [u16; 10] = [1, 13, 14, 15, 2, 3, 5, 6, 7, 11];
+// The faults in their order. Coding does not look for the last.
+const FAULTS: [Refusal; 10] = [
+    Refusal::Size,
+    Refusal::Depth,
+    Refusal::Columns,
+    Refusal::Rows,
+    Refusal::Kernel,
+    Refusal::Bin,
+    Refusal::PictureLength,
+    Refusal::LevelsLength,
+    Refusal::WorkLength,
+    Refusal::Index,
+];
 
 // An index that is within 4,096: at bin 3 it is -4,095, which with 200 is -3,895.
 const LAWFUL: Put = Put {
@@ -35,21 +48,22 @@ fn put(faults: Faults) -> Put {
         unlawful(6, -2049),
         unlawful(5, -4097),
     ];
-    faults.choose(11, unlawful, [LAWFUL; 4])
+    faults.choose(Refusal::Index, unlawful, [LAWFUL; 4])
 }
 
 // Buffers of the right lengths, the work buffer longer too; or with their faults too short and too long, the work buffer too short.
 fn lengths(faults: Faults) -> Lengths {
     Lengths {
-        picture: faults.choose(5, [44, 46, 44, 46], [45; 4]),
-        levels: faults.choose(6, [65, 65, 67, 67], [66; 4]),
-        work: faults.choose(7, [65, 65, 0, 0], [66, 70, 66, 70]),
+        picture: faults.choose(Refusal::PictureLength, [44, 46, 44, 46], [45; 4]),
+        levels: faults.choose(Refusal::LevelsLength, [65, 65, 67, 67], [66; 4]),
+        work: faults.choose(Refusal::WorkLength, [65, 65, 0, 0], [66, 70, 66, 70]),
     }
 }
 
 fn gives_first(call: Call, faults: Faults) -> bool {
     let s = faults.put_in(BASE);
-    calling::gives(call, s, lengths(faults), Some(put(faults)), faults.first())
+    let answer = faults.answer(());
+    calling::gives(call, s, lengths(faults), Some(put(faults)), answer)
 }
 
 // The first sets of faults, four checks a set: 512 sets that coding looks for, 1,024 that rebuilding looks for.
@@ -57,7 +71,7 @@ pub(crate) fn all(call: Call, sets: u16) -> Checks {
     check_sets(sets, |bits, variant| {
         let faults = Faults {
             bits,
-            table: &NUMBERS,
+            table: &FAULTS,
             variant,
         };
         (!gives_first(call, faults)).then_some(())

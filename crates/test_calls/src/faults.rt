@@ -1,12 +1,11 @@
 // Settings with one fault each, at both ends of every range, in every function that takes settings.
-// Kept: answers are the numbers of document 01, 0 where nothing is refused, as `calling` compares them.
 use crate::base::BASE;
-use crate::buffers::Lengths;
 use crate::calling::Call;
 use crate::{base, calling, shapes};
 use pyramid::Settings;
-use refusals::answer_number;
+use refusals::Refusal;
 use test_support::reporting::Checks;
+use test_support::rooms::Lengths;
 
 // A setting: C, R, N, k, or the bin of a slot.
 // Kept: each has a place and a rule of its own, so two matches of an enum, with no case forgotten, are plainer than closures for both.
@@ -39,75 +38,49 @@ fn with_setting(setting: Setting, value: u16) -> Settings {
     s
 }
 
-// T, where the settings are not refused.
-fn nodes_give(s: Settings, answer: u16) -> bool {
-    let t = pyramid::total_nodes(s);
-    answer_number(t) == answer
-        && t.is_ok_and(|nodes| usize::from(nodes) == base::NODES) == (answer == 0)
-}
-
-// The bounds, or seven zeros where the settings are refused.
-fn bounds_give(s: Settings, answer: u16, bounds: [u16; 7]) -> bool {
-    let b = pyramid::level_bounds(s);
-    answer_number(b) == answer && b.unwrap_or([0; 7]) == bounds
-}
-
-// The answer of all functions, with buffers of the lengths of the settings without the fault.
-pub(crate) fn check(t: &mut Checks, s: Settings, answer: u16, bounds: [u16; 7]) {
+// The answer of all functions to settings whose bounds, or whose refusal, are given, with buffers of the lengths of the settings
+// without the fault.
+pub(crate) fn check(t: &mut Checks, s: Settings, bounds: Result<[u16; 7], Refusal>) {
+    let answer = bounds.map(|_| ());
+    let nodes = pyramid::total_nodes(s).map(usize::from);
     let n = Lengths {
         picture: base::PIXELS,
         levels: base::NODES,
         work: base::NODES,
     };
-    t.check(nodes_give(s, answer));
-    t.check(bounds_give(s, answer, bounds));
+    t.check(nodes == answer.map(|()| base::NODES));
+    t.check(pyramid::level_bounds(s) == bounds);
     t.check(calling::gives(Call::Coding, s, n, None, answer));
     t.check(calling::gives(Call::Rebuilding, s, n, None, answer));
     shapes::check(t, s, answer);
 }
 
-// The answer to another C or R than 9 and 5: no other that is tried is a multiple of 4 and 1 more.
-fn answer_to_side(value: u16, undivided: u16) -> u16 {
+// The refusal of another C or R than 9 and 5: no other that is tried is a multiple of 4 and 1 more.
+fn refusal_of_side(value: u16, undivided: Refusal) -> Refusal {
     if 2 <= value && value <= 129 {
         undivided
     } else {
-        1
+        Refusal::Size
     }
 }
 
-// The answer to another N than 2: of C - 1, 8, and R - 1, 4, it is R - 1 that 2 to the third does not divide.
-fn answer_to_depth(value: u16) -> u16 {
+// The refusal of another N than 2: of C - 1, 8, and R - 1, 4, it is R - 1 that 2 to the third does not divide.
+fn refusal_of_depth(value: u16) -> Refusal {
     if 6 < value {
-        13
+        Refusal::Depth
     } else if 3 < value {
-        14
+        Refusal::Columns
     } else {
-        15
+        Refusal::Rows
     }
 }
 
-fn answer_to_kernel(value: u16) -> u16 {
-    if 3 <= value && value <= 6 { 0 } else { 2 }
-}
-
-// The answer to another bin: in a slot up to N = 2 it is to be 1 to 255, and above 0.
-fn answer_to_bin(slot: usize, value: u16) -> u16 {
-    let is_lawful = if slot <= 2 {
+// Whether a bin is lawful: in a slot up to N = 2 it is to be 1 to 255, and above 0.
+fn is_bin(slot: usize, value: u16) -> bool {
+    if slot <= 2 {
         1 <= value && value <= 255
     } else {
         value == 0
-    };
-    if is_lawful { 0 } else { 3 }
-}
-
-// The answer to a setting in place of the lawful one: 9 by 5, N = 2. No other C, R or N that is tried is lawful.
-fn answer_to(setting: Setting, value: u16) -> u16 {
-    match setting {
-        Setting::Columns => answer_to_side(value, 14),
-        Setting::Rows => answer_to_side(value, 15),
-        Setting::Depth => answer_to_depth(value),
-        Setting::Kernel => answer_to_kernel(value),
-        Setting::Bin(slot) => answer_to_bin(slot, value),
     }
 }
 
@@ -127,25 +100,25 @@ fn bounds_with(slot: usize, bin: u16) -> [u16; 7] {
     }
 }
 
-// The bounds with a setting in place of the lawful one. For k = 6, whose multiplier is 1.96, rounded up, they are 3, 1 and 0. A
-// refusal holds zeros.
-fn bounds_to(setting: Setting, value: u16) -> [u16; 7] {
-    if answer_to(setting, value) != 0 {
-        return [0; 7];
-    }
+// The bounds with a setting in place of the lawful one: 9 by 5, N = 2. No other C, R or N that is tried is lawful. For k = 6, whose
+// multiplier is 1.96, rounded up, the bounds are 3, 1 and 0.
+fn bounds_to(setting: Setting, value: u16) -> Result<[u16; 7], Refusal> {
     match (setting, value) {
-        (Setting::Kernel, 6) => [3, 1, 0, 0, 0, 0, 0],
-        (Setting::Bin(slot), bin) => bounds_with(slot, bin),
-        _ => BOUNDS,
+        (Setting::Columns, _) => Err(refusal_of_side(value, Refusal::Columns)),
+        (Setting::Rows, _) => Err(refusal_of_side(value, Refusal::Rows)),
+        (Setting::Depth, _) => Err(refusal_of_depth(value)),
+        (Setting::Kernel, 3 | 4 | 5) => Ok(BOUNDS),
+        (Setting::Kernel, 6) => Ok([3, 1, 0, 0, 0, 0, 0]),
+        (Setting::Kernel, _) => Err(Refusal::Kernel),
+        (Setting::Bin(slot), bin) if is_bin(slot, bin) => Ok(bounds_with(slot, bin)),
+        (Setting::Bin(_), _) => Err(Refusal::Bin),
     }
 }
 
 // A setting with each of some values.
 fn check_each(t: &mut Checks, setting: Setting, values: &[u16]) {
     for value in values {
-        let answer = answer_to(setting, *value);
-        let bounds = bounds_to(setting, *value);
-        check(t, with_setting(setting, *value), answer, bounds);
+        check(t, with_setting(setting, *value), bounds_to(setting, *value));
     }
 }
 

@@ -1,9 +1,11 @@
 // Buffers of other lengths than the settings ask for. Only the work buffer may be longer.
 use crate::base::BASE;
-use crate::buffers::{Lengths, Put};
+use crate::buffers::Put;
 use crate::calling;
 use crate::calling::Call;
+use refusals::Refusal;
 use test_support::reporting::Checks;
+use test_support::rooms::Lengths;
 
 // At bin 3 index 5 is 15, which with 200 is 215.
 const PUT: Put = Put {
@@ -14,18 +16,18 @@ const PUT: Put = Put {
 };
 
 // The lengths, and the answer to them.
-const ANSWERS: [(usize, usize, usize, u16); 11] = [
-    (45, 66, 66, 0),
-    (44, 66, 66, 5),
-    (46, 66, 66, 5),
-    (0, 66, 66, 5),
-    (45, 65, 66, 6),
-    (45, 67, 67, 6),
-    (45, 0, 66, 6),
-    (45, 66, 65, 7),
-    (45, 66, 0, 7),
-    (45, 66, 67, 0),
-    (45, 66, 72, 0),
+const ANSWERS: [(usize, usize, usize, Result<(), Refusal>); 11] = [
+    (45, 66, 66, Ok(())),
+    (44, 66, 66, Err(Refusal::PictureLength)),
+    (46, 66, 66, Err(Refusal::PictureLength)),
+    (0, 66, 66, Err(Refusal::PictureLength)),
+    (45, 65, 66, Err(Refusal::LevelsLength)),
+    (45, 67, 67, Err(Refusal::LevelsLength)),
+    (45, 0, 66, Err(Refusal::LevelsLength)),
+    (45, 66, 65, Err(Refusal::WorkLength)),
+    (45, 66, 0, Err(Refusal::WorkLength)),
+    (45, 66, 67, Ok(())),
+    (45, 66, 72, Ok(())),
 ];
 
 // Both calls with buffers of each length.

@@ -1,13 +1,14 @@
 // Worked pieces of document 01.
-use crate::buffers::{Lengths, Put};
+use crate::buffers::Put;
 use crate::calling::{Call, answer_of};
 use crate::{calling, faults};
 use pyramid::Settings;
-use refusals::answer_number;
+use refusals::Refusal;
 use std::array;
 use test_support::comparing::first_difference;
-use test_support::fillers::{first_changed, index_filler, work_filler};
+use test_support::fillers::{first_changed, lawful_index, work_filler};
 use test_support::reporting::Checks;
+use test_support::rooms::Lengths;
 
 // Kept: this converts nothing: it leaves out the five bins that no piece has.
 fn settings(columns: u16, rows: u16, depth: u16, kernel: u16, first: u16, second: u16) -> Settings {
@@ -37,26 +38,25 @@ const AVERAGES_A: [i32; 13] = [25, 25, 25, 25, 0, 0, 0, 0, 100, 0, 0, 0, 0];
 const VALUES_A: [i32; 13] = [24, 24, 24, 24, -6, -6, -6, -6, 94, -6, -6, -6, -6];
 
 // What a rebuilding answers and leaves.
-// Kept: the answer is a number, as `answer_of` gives it.
 fn check_rebuilt(
     t: &mut Checks,
-    answer: u16,
+    answer: Result<(), Refusal>,
     values: &[i32],
     pixels: &[u8],
     picture: &[u8],
     work: &[i32],
 ) {
-    t.check(answer == 0);
+    t.check(answer.is_ok());
     t.check(first_difference(work, values, values.len()).is_none());
     t.check(first_difference(picture, pixels, pixels.len()).is_none());
 }
 
 fn check_piece_a_coded(t: &mut Checks) {
     let mut picture: [u8; 9] = [0, 0, 0, 0, 100, 0, 0, 0, 0];
-    let mut levels: [i16; 13] = array::from_fn(|i| index_filler(true, i));
+    let mut levels: [i16; 13] = array::from_fn(lawful_index);
     let mut work: [i32; 14] = array::from_fn(work_filler);
     let answer = answer_of(Call::Coding, PIECE_A, &mut picture, &mut levels, &mut work);
-    t.check(answer == 0);
+    t.check(answer.is_ok());
     t.check(levels == INDICES_A);
     t.check(first_difference(&work, &AVERAGES_A, 13).is_none());
     t.check(first_changed(&work, 13, work_filler).is_none());
@@ -119,61 +119,61 @@ fn check_smallest(t: &mut Checks) {
         value: 4096,
         pixel: 255,
     };
-    t.check(calling::gives(Call::Coding, s, four, None, 0));
-    t.check(calling::gives(Call::Rebuilding, s, four, Some(put), 0));
+    t.check(calling::gives(Call::Coding, s, four, None, Ok(())));
+    t.check(calling::gives(Call::Rebuilding, s, four, Some(put), Ok(())));
 }
 
 // A size and a depth that are refused: C or R of 1 or 130; C = 4, R = 4 or both with N = 1; N = 7, whatever divides, and with C
 // or R of 1.
-const REFUSED_SIZES: [(u16, u16, u16, u16); 13] = [
-    (1, 3, 1, 1),
-    (130, 3, 1, 1),
-    (3, 1, 1, 1),
-    (3, 130, 1, 1),
-    (4, 3, 1, 14),
-    (3, 4, 1, 15),
-    (4, 4, 1, 14),
-    (129, 129, 7, 13),
-    (128, 129, 7, 13),
-    (129, 128, 7, 13),
-    (3, 3, 7, 13),
-    (1, 129, 7, 1),
-    (129, 1, 7, 1),
+const REFUSED_SIZES: [(u16, u16, u16, Refusal); 13] = [
+    (1, 3, 1, Refusal::Size),
+    (130, 3, 1, Refusal::Size),
+    (3, 1, 1, Refusal::Size),
+    (3, 130, 1, Refusal::Size),
+    (4, 3, 1, Refusal::Columns),
+    (3, 4, 1, Refusal::Rows),
+    (4, 4, 1, Refusal::Columns),
+    (129, 129, 7, Refusal::Depth),
+    (128, 129, 7, Refusal::Depth),
+    (129, 128, 7, Refusal::Depth),
+    (3, 3, 7, Refusal::Depth),
+    (1, 129, 7, Refusal::Size),
+    (129, 1, 7, Refusal::Size),
 ];
 
 pub(crate) fn sizes() -> Checks {
     let mut t = Checks::new();
-    for (columns, rows, depth, answer) in REFUSED_SIZES {
+    for (columns, rows, depth, refusal) in REFUSED_SIZES {
         let s = settings(columns, rows, depth, 4, 1, 1);
-        faults::check(&mut t, s, answer, [0; 7]);
+        faults::check(&mut t, s, Err(refusal));
     }
     check_smallest(&mut t);
     t
 }
 
-// Columns and rows, and the refusal and the depth that are answered.
-const DEEPEST: [(u16, u16, u16, u16); 13] = [
-    (129, 129, 0, 6),
-    (97, 97, 0, 5),
-    (2, 129, 0, 0),
-    (129, 2, 0, 0),
-    (65, 129, 0, 6),
-    (3, 3, 0, 1),
-    (2, 2, 0, 0),
-    (1, 3, 1, 0),
-    (3, 1, 1, 0),
-    (130, 3, 1, 0),
-    (3, 130, 1, 0),
-    (0, 0, 1, 0),
-    (65535, 65535, 1, 0),
+// Columns and rows, and the depth or the refusal that is answered.
+const DEEPEST: [(u16, u16, Result<u16, Refusal>); 13] = [
+    (129, 129, Ok(6)),
+    (97, 97, Ok(5)),
+    (2, 129, Ok(0)),
+    (129, 2, Ok(0)),
+    (65, 129, Ok(6)),
+    (3, 3, Ok(1)),
+    (2, 2, Ok(0)),
+    (1, 3, Err(Refusal::Size)),
+    (3, 1, Err(Refusal::Size)),
+    (130, 3, Err(Refusal::Size)),
+    (3, 130, Err(Refusal::Size)),
+    (0, 0, Err(Refusal::Size)),
+    (65535, 65535, Err(Refusal::Size)),
 ];
 
 pub(crate) fn deepest_depths() -> Checks {
     let mut t = Checks::new();
-    for (columns, rows, refusal, depth) in DEEPEST {
+    for (columns, rows, answer) in DEEPEST {
         let d = pyramid::deepest_depth(columns, rows);
-        t.check(answer_number(d) == refusal);
-        t.check(d.unwrap_or(0) == depth);
+        t.check(d.err() == answer.err());
+        t.check(d.ok() == answer.ok());
     }
     t
 }
@@ -218,7 +218,8 @@ fn check_refused_index(t: &mut Checks, place: usize, index: i16) {
         value: 0,
         pixel: 0,
     };
-    t.check(calling::gives(Call::Rebuilding, bin_255(), n, Some(put), 11));
+    let answer = Err(Refusal::Index);
+    t.check(calling::gives(Call::Rebuilding, bin_255(), n, Some(put), answer));
 }
 
 pub(crate) fn index_limit() -> Checks {

@@ -1,40 +1,29 @@
 // The calls on a shape alone and on a level buffer alone, and the test of a range of indices.
-// Kept: answers are the numbers of document 01, 0 where nothing is refused, as `calling` compares them.
 use pyramid::{IndexRange, Settings};
-use refusals::answer_number;
+use refusals::Refusal;
 use std::array;
-use test_support::fillers::index_filler;
+use test_support::fillers::lawful_index;
 use test_support::reporting::Checks;
 
-// A shape's bins are not looked at: T, where the shape is not refused.
-fn nodes_give(s: Settings, refusal: u16, nodes: u16) -> bool {
-    let t = pyramid::shape_nodes(s);
-    answer_number(t) == refusal && t.is_ok_and(|n| n == nodes) == (refusal == 0)
+// The columns and the rows of a level.
+fn level_sides(s: Settings, level: u16) -> Result<(u16, u16), Refusal> {
+    pyramid::level_size(s, level).map(|size| (size.columns, size.rows))
 }
 
-// A level of so many columns and rows, where the shape is not refused.
-fn level_gives(s: Settings, level: u16, refusal: u16, columns: u16, rows: u16) -> bool {
-    let size = pyramid::level_size(s, level);
-    let is_so = size.is_ok_and(|z| z.columns == columns && z.rows == rows);
-    answer_number(size) == refusal && is_so == (refusal == 0)
-}
-
-// A level buffer of 66 small indices.
-fn levels_give(s: Settings, answer: u16) -> bool {
-    let levels: [i16; 66] = array::from_fn(|i| index_filler(true, i));
-    answer_number(pyramid::check_levels(s, &levels)) == answer
-}
-
-// Settings whose shape is 9 by 5, N = 2, or refused.
-pub(crate) fn check(t: &mut Checks, s: Settings, answer: u16) {
-    let refusal = if answer == 3 { 0 } else { answer };
-    t.check(answer_number(pyramid::check_settings(s)) == answer);
-    t.check(nodes_give(s, refusal, 66));
-    t.check(level_gives(s, 0, refusal, 9, 5));
-    t.check(level_gives(s, 2, refusal, 3, 2));
-    t.check(level_gives(s, 3, refusal, 0, 0));
-    t.check(level_gives(s, 65535, refusal, 0, 0));
-    t.check(levels_give(s, answer));
+// Settings whose shape is 9 by 5, N = 2, or refused. A shape's bins are not looked at.
+pub(crate) fn check(t: &mut Checks, s: Settings, answer: Result<(), Refusal>) {
+    let levels: [i16; 66] = array::from_fn(lawful_index);
+    let shape = match answer {
+        Err(Refusal::Bin) => Ok(()),
+        _ => answer,
+    };
+    t.check(pyramid::check_settings(s) == answer);
+    t.check(pyramid::shape_nodes(s) == shape.map(|()| 66));
+    t.check(level_sides(s, 0) == shape.map(|()| (9, 5)));
+    t.check(level_sides(s, 2) == shape.map(|()| (3, 2)));
+    t.check(level_sides(s, 3) == shape.map(|()| (0, 0)));
+    t.check(level_sides(s, 65535) == shape.map(|()| (0, 0)));
+    t.check(pyramid::check_levels(s, &levels) == answer);
 }
 
 // A range from a low to a high index, a bin, and whether every index of the range is lawful at it.

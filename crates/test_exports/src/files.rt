@@ -2,21 +2,26 @@
 // Kept: refusals are numbers, since the exported functions answer numbers; `places` is the length of a buffer lent beside the file.
 use crate::handed::Handed;
 use crate::lent::{BEFORE, TALL};
-use crate::parts::Readings;
+use crate::parts::{Readings, code};
 use crate::writing::Contents;
 use crate::{handed, parts, writing};
+use bale::Code;
 use pyramid::Settings;
 use std::array;
 use test_support::comparing::{first_difference, indices};
 use test_support::decoding;
-use test_support::fillers::{byte_filler, first_changed, index_filler};
+use test_support::fillers::{byte_filler, first_changed, lawful_index, unlawful_index};
 use test_support::reading::rest;
 use test_support::reporting::Checks;
 
 // A fault code of 9 before the drier, 100 percent at the press.
-fn small_readings() -> Readings {
-    parts::note(2, 9, 1, 0x42C8_0000)
-}
+const SMALL_READINGS: Readings = [
+    Code { kind: 2, number: 9 },
+    Code {
+        kind: 1,
+        number: 0x42C8_0000,
+    },
+];
 
 // The file of 3 by 2, N = 0, k = 5, bin 7, these readings and the indices below; and a byte more.
 const SMALL_FILE: [u8; 41] =
@@ -27,17 +32,18 @@ const SMALL_LEVELS: [i16; 7] = [1, -1, 256, -585, 585, -32, 0];
 // Readings, how many of the levels are written into how many bytes, and the answer: the exact bytes, and more; then refusals, each
 // with the next besides.
 pub(crate) fn written() -> Checks {
-    let r = small_readings();
+    let r = SMALL_READINGS;
+    let file = &SMALL_FILE[..40];
     let mut t = Checks::new();
-    for (readings, places, room, refusal) in [
-        (r, 6, 40, 0),
-        (r, 6, 50, 0),
-        (r, 6, 39, 8),
-        (r, 6, 0, 8),
-        (r, 5, 39, 6),
-        (r, 7, 39, 6),
-        (parts::note(2, 0, 1, 0), 5, 39, 4),
-        (parts::note(2, 9, 3, 0), 5, 39, 4),
+    for (readings, places, room, e) in [
+        (r, 6, 40, Ok(file)),
+        (r, 6, 50, Ok(file)),
+        (r, 6, 39, Err(8)),
+        (r, 6, 0, Err(8)),
+        (r, 5, 39, Err(6)),
+        (r, 7, 39, Err(6)),
+        ([code(2, 0), code(1, 0)], 5, 39, Err(4)),
+        ([code(2, 9), code(3, 0)], 5, 39, Err(4)),
     ] {
         let n = places.min(7);
         let contents = Contents {
@@ -45,7 +51,7 @@ pub(crate) fn written() -> Checks {
             readings,
             levels: &SMALL_LEVELS[..n],
         };
-        t.check(writing::gives(contents, room, refusal, &SMALL_FILE[..40]));
+        t.check(writing::gives(contents, room, e));
     }
     t
 }
@@ -77,33 +83,29 @@ pub(crate) fn unset() -> Checks {
                 kernel,
                 ..parts::small(bin)
             },
-            readings: parts::note(3, 0, 1, 0),
+            readings: [code(3, 0), code(1, 0)],
             levels: &SMALL_LEVELS[..6],
         };
-        t.check(writing::gives(contents, 39, refusal, &SMALL_FILE[..40]));
+        t.check(writing::gives(contents, 39, Err(refusal)));
     }
     t
 }
 
-// What the reader is to hand out of a file with the small one's parts.
-fn expected(refusal: u16) -> Handed {
-    if refusal != 0 {
-        return handed::refused(refusal);
-    }
-    handed::accepted(parts::small(7), small_readings())
+// What the readers are to hand out of a file with the small one's parts.
+fn expected(e: Result<(), u16>) -> Handed {
+    handed::expected(e, parts::small(7), SMALL_READINGS)
 }
 
 // Reads a file with so many places lent. That leaves the indices, or all places as they were.
-fn check_reading(t: &mut Checks, file: &[u8], places: usize, refusal: u16) {
-    let before: [i16; 7] = array::from_fn(|i| index_filler(false, i));
+fn check_reading(t: &mut Checks, file: &[u8], places: usize, e: Result<(), u16>) {
+    let before: [i16; 7] = array::from_fn(unlawful_index);
     let mut levels = before;
     let n = places.min(7);
     let got = handed::by_reading(file, &mut levels[..n]);
-    t.check(got == expected(refusal));
-    t.check(if refusal == 0 {
-        first_difference(&levels, &SMALL_LEVELS, 6).is_none()
-    } else {
-        levels == before
+    t.check(got == expected(e));
+    t.check(match e {
+        Ok(()) => first_difference(&levels, &SMALL_LEVELS, 6).is_none(),
+        Err(_) => levels == before,
     });
 }
 
@@ -115,14 +117,14 @@ fn with_byte(place: usize, byte: u8) -> [u8; 41] {
 }
 
 // Both readers over the first bytes of such a file.
-fn check_both(t: &mut Checks, size: usize, place: usize, byte: u8, refusal: u16) {
+fn check_both(t: &mut Checks, size: usize, place: usize, byte: u8, e: Result<(), u16>) {
     let file = with_byte(place, byte);
     let n = size.min(41);
-    t.check(handed::by_checking(&file[..n]) == expected(refusal));
-    check_reading(t, &file[..n], 6, refusal);
+    t.check(handed::by_checking(&file[..n]) == expected(e));
+    check_reading(t, &file[..n], 6, e);
 }
 
-// How many bytes of the small file are read, a place and the byte there, and the answer: cut in each section, with a byte more; then
+// How many bytes of the small file are read, a place and the byte there, and the refusal: cut in each section, with a byte more; then
 // a fault in each section.
 const SMALL: [(usize, usize, u8, u16); 20] = [
     (0, 0, 4, 9),
@@ -150,20 +152,20 @@ const SMALL: [(usize, usize, u8, u16); 20] = [
 // The file, and with more and fewer places; then what is refused.
 pub(crate) fn small() -> Checks {
     let mut t = Checks::new();
-    check_both(&mut t, 40, 0, 4, 0);
-    check_reading(&mut t, &SMALL_FILE[..40], 7, 6);
-    check_reading(&mut t, &SMALL_FILE[..40], 5, 6);
+    check_both(&mut t, 40, 0, 4, Ok(()));
+    check_reading(&mut t, &SMALL_FILE[..40], 7, Err(6));
+    check_reading(&mut t, &SMALL_FILE[..40], 5, Err(6));
     for (size, place, byte, refusal) in SMALL {
-        check_both(&mut t, size, place, byte, refusal);
+        check_both(&mut t, size, place, byte, Err(refusal));
     }
     t
 }
 
 // Reads the file of three levels back: the fillers in the level buffer, C, R, N and k, the bins, and the readings.
 fn check_three_read(t: &mut Checks, file: &[u8], written: &[i16; 66]) {
-    let mut levels: [i16; 66] = array::from_fn(|i| index_filler(false, i));
+    let mut levels: [i16; 66] = array::from_fn(unlawful_index);
     let got = handed::by_reading(file, &mut levels);
-    let e = handed::accepted(TALL, parts::note(1, 0x40D0_0000, 2, 17));
+    let e = handed::accepted(TALL, [code(1, 0x40D0_0000), code(2, 17)]);
     t.check(got == e);
     t.check(levels == *written);
     t.check(handed::by_checking(file) == e);
@@ -193,7 +195,7 @@ fn check_three(t: &mut Checks, file: &[u8; 170], levels: &[i16; 66]) {
 // Writes the file of 5 columns and 9 rows, N = 2, k = 3, bins 7, 4 and 2.
 pub(crate) fn three() -> Checks {
     let mut t = Checks::new();
-    let levels: [i16; 66] = array::from_fn(|i| index_filler(true, i));
+    let levels: [i16; 66] = array::from_fn(lawful_index);
     let mut file: [u8; 170] = array::from_fn(byte_filler);
     let mut size = usize::from(BEFORE);
     let answer = lepsarvu::lepsarvu_write_file(

@@ -31,8 +31,16 @@ pub(crate) fn accepted(s: Settings, r: Readings) -> Handed {
         answer: 0,
         shape: [s.columns, s.rows, s.depth, s.kernel],
         bins,
-        kinds: [r.drier_kind, r.press_kind],
-        numbers: [r.drier_number, r.press_number],
+        kinds: r.map(|code| code.kind),
+        numbers: r.map(|code| code.number),
+    }
+}
+
+// What is to be handed out where the call is accepted, or refused.
+pub(crate) fn expected(e: Result<(), u16>, s: Settings, r: Readings) -> Handed {
+    match e {
+        Ok(()) => accepted(s, r),
+        Err(refusal) => refused(refusal),
     }
 }
 

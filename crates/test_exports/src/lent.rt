@@ -26,6 +26,20 @@ pub(crate) const BEFORE: u16 = 60001;
 // What lent bounds hold before a call.
 pub(crate) const BOUNDS_BEFORE: [u16; 7] = [60011, 60012, 60013, 60014, 60015, 60016, 60017];
 
+// Whether a call answers 0 and leaves the value that is expected, or answers the refusal that is, and leaves what was there before.
+// Kept: a refusal is the number that the exported function answers.
+pub(crate) fn is_left<T: PartialEq + Copy>(
+    answer: u16,
+    left: T,
+    before: T,
+    e: Result<T, u16>,
+) -> bool {
+    match e {
+        Ok(value) => answer == 0 && left == value,
+        Err(refusal) => answer == refusal && left == before,
+    }
+}
+
 // Settings with one fault, which the refusal names: a side of 130, a depth of 7, columns or rows that 2 to the depth does not divide less 1, a
 // kernel, or the bin of level 0. With 0 they are lawful.
 // Kept: the numbers of document 01, since the exported functions answer numbers.

@@ -1,56 +1,35 @@
 // PGM files that are read. What their headers mean is document 02's (P2).
 // Kept: refusals are numbers, since the exported functions answer numbers; `places` is the length of a buffer lent beside the file.
-use crate::lent::BEFORE;
-use crate::pgm_writing;
+use crate::lent::{BEFORE, is_left};
+use crate::pgm_writing::{Picture, holds};
 use lepsarvu::pictures;
 use test_support::fillers::{byte_filler, fill};
 use test_support::reporting::Checks;
 
-// What a reader answers and leaves: the sides and the pixels; a refused one, which has no pixels, leaves all as it was.
-#[derive(Clone, Copy)]
-struct Left<'a> {
-    refusal: u16,
-    columns: u16,
-    rows: u16,
-    pixels: &'a [u8],
+// Whether a reader answers and leaves the sides of a picture, or is refused and leaves them as they were.
+fn are_sides(answer: u16, columns: u16, rows: u16, e: Result<Picture, u16>) -> bool {
+    let sides = e.map(|p| (p.columns, p.rows));
+    is_left(answer, (columns, rows), (BEFORE, BEFORE), sides)
 }
 
-fn accepted(columns: u16, rows: u16, pixels: &[u8]) -> Left {
-    Left {
-        refusal: 0,
-        columns,
-        rows,
-        pixels,
-    }
-}
-
-fn refused(refusal: u16) -> Left<'static> {
-    Left {
-        refusal,
-        columns: BEFORE,
-        rows: BEFORE,
-        pixels: b"",
-    }
-}
-
-// A reading into so many places of a filled buffer.
-fn check_reading(t: &mut Checks, file: &[u8], places: usize, e: Left) {
+// A reading into so many places of a filled buffer. A refused one puts no pixels there.
+fn check_reading(t: &mut Checks, file: &[u8], places: usize, e: Result<Picture, u16>) {
     let mut picture: [u8; 40] = [0; 40];
     let mut columns = BEFORE;
     let mut rows = BEFORE;
     fill(&mut picture, byte_filler);
     let n = places.min(40);
     let answer = pictures::lepsarvu_read_pgm(file, &mut picture[..n], &mut columns, &mut rows);
-    t.check(answer == e.refusal && columns == e.columns && rows == e.rows);
-    t.check(pgm_writing::is_left(&picture, e.pixels));
+    t.check(are_sides(answer, columns, rows, e));
+    t.check(holds(&picture, e.map_or(&[], |p| p.pixels)));
 }
 
 // The reader that is lent no picture, then the other.
-fn check_both(t: &mut Checks, file: &[u8], places: usize, e: Left) {
+fn check_both(t: &mut Checks, file: &[u8], places: usize, e: Result<Picture, u16>) {
     let mut columns = BEFORE;
     let mut rows = BEFORE;
     let answer = pictures::lepsarvu_check_pgm(file, &mut columns, &mut rows);
-    t.check(answer == e.refusal && columns == e.columns && rows == e.rows);
+    t.check(are_sides(answer, columns, rows, e));
     check_reading(t, file, places, e);
 }
 
@@ -65,20 +44,32 @@ const SAME: [&[u8]; 6] = [
     b"P5\n00003 00002\n00255\n\xC8\x00\xFF\n#5",
 ];
 
+const PICTURE: Picture = Picture {
+    columns: 3,
+    rows: 2,
+    pixels: b"\xC8\x00\xFF\n#5",
+};
+
+const SPACE: Picture = Picture {
+    columns: 2,
+    rows: 3,
+    pixels: b"\n\r #9\n",
+};
+
+const LETTERS: Picture = Picture {
+    columns: 2,
+    rows: 12,
+    pixels: b"ABCDEFGHIJKLMNOPQRSTUVWX",
+};
+
 pub(crate) fn files() -> Checks {
     let mut t = Checks::new();
     for file in SAME {
-        check_both(&mut t, file, 6, accepted(3, 2, b"\xC8\x00\xFF\n#5"));
+        check_both(&mut t, file, 6, Ok(PICTURE));
     }
-    let space = accepted(2, 3, b"\n\r #9\n");
-    check_both(&mut t, b"P5\n2 3\n255\n\n\r #9\n", 6, space);
-    let letters = accepted(2, 12, b"ABCDEFGHIJKLMNOPQRSTUVWX");
-    check_both(
-        &mut t,
-        b"P5 2 12 255\nABCDEFGHIJKLMNOPQRSTUVWX",
-        24,
-        letters,
-    );
+    check_both(&mut t, b"P5\n2 3\n255\n\n\r #9\n", 6, Ok(SPACE));
+    let letters = b"P5 2 12 255\nABCDEFGHIJKLMNOPQRSTUVWX";
+    check_both(&mut t, letters, 24, Ok(LETTERS));
     t
 }
 
@@ -86,7 +77,7 @@ pub(crate) fn files() -> Checks {
 pub(crate) fn lengths() -> Checks {
     let mut t = Checks::new();
     for places in [0, 5, 7] {
-        check_reading(&mut t, SAME[0], places, refused(5));
+        check_reading(&mut t, SAME[0], places, Err(5));
     }
     t
 }
@@ -117,7 +108,7 @@ const HEADERS: [&[u8]; 18] = [
 pub(crate) fn headers() -> Checks {
     let mut t = Checks::new();
     for file in HEADERS {
-        check_both(&mut t, file, 6, refused(16));
+        check_both(&mut t, file, 6, Err(16));
     }
     t
 }
@@ -128,7 +119,7 @@ type Refused = (&'static [u8], usize, u16);
 fn check_each(files: &[Refused]) -> Checks {
     let mut t = Checks::new();
     for (file, places, refusal) in files {
-        check_both(&mut t, file, *places, refused(*refusal));
+        check_both(&mut t, file, *places, Err(*refusal));
     }
     t
 }

@@ -1,38 +1,38 @@
 // PGM pictures that are written, byte after byte as document 02 has them (P2).
 // Kept: refusals are numbers, since the exported functions answer numbers.
-use crate::lent::BEFORE;
+use crate::lent::{BEFORE, is_left};
 use lepsarvu::pictures;
 use test_support::comparing::first_difference;
 use test_support::fillers::{byte_filler, fill, first_changed};
 use test_support::reporting::Checks;
 
-// Columns and rows; the answer, and the size that the call leaves: 9 and the digits of both sides and the pixels. A refused size
-// leaves the number as it was.
-const SIZES: [(u16, u16, u16, u16); 10] = [
-    (3, 2, 0, 17),
-    (9, 10, 0, 102),
-    (100, 99, 0, 9914),
-    (129, 129, 0, 16656),
-    (1, 2, 1, BEFORE),
-    (130, 2, 1, BEFORE),
-    (65535, 2, 1, BEFORE),
-    (2, 1, 1, BEFORE),
-    (2, 130, 1, BEFORE),
-    (2, 65535, 1, BEFORE),
+// Columns and rows; the size that the call leaves, which is 9 and the digits of both sides and the pixels, or the refusal.
+const SIZES: [(u16, u16, Result<usize, u16>); 10] = [
+    (3, 2, Ok(17)),
+    (9, 10, Ok(102)),
+    (100, 99, Ok(9914)),
+    (129, 129, Ok(16656)),
+    (1, 2, Err(1)),
+    (130, 2, Err(1)),
+    (65535, 2, Err(1)),
+    (2, 1, Err(1)),
+    (2, 130, Err(1)),
+    (2, 65535, Err(1)),
 ];
 
 pub(crate) fn sizes() -> Checks {
     let mut t = Checks::new();
-    for (columns, rows, refusal, left) in SIZES {
-        let mut size = usize::from(BEFORE);
+    for (columns, rows, e) in SIZES {
+        let before = usize::from(BEFORE);
+        let mut size = before;
         let answer = pictures::lepsarvu_pgm_size(columns, rows, &mut size);
-        t.check(answer == refusal && size == usize::from(left));
+        t.check(is_left(answer, size, before, e));
     }
     t
 }
 
 // Whether a filled buffer starts with these bytes, and keeps its fillers after them. No byte that is tried is the filler of its place.
-pub(crate) fn is_left(buffer: &[u8; 40], bytes: &[u8]) -> bool {
+pub(crate) fn holds(buffer: &[u8; 40], bytes: &[u8]) -> bool {
     let n = bytes.len();
     first_difference(buffer, bytes, n).is_none() && first_changed(buffer, n, byte_filler).is_none()
 }
@@ -45,11 +45,11 @@ pub(crate) struct Picture<'a> {
     pub pixels: &'a [u8],
 }
 
-// A writing into so many bytes of a filled buffer, and what it leaves: the file and its size; a refused one, of which the file is
-// empty, leaves both as they were.
-pub(crate) fn check(t: &mut Checks, p: Picture, room: usize, refusal: u16, file: &[u8]) {
+// A writing into so many bytes of a filled buffer, and what it leaves: the file and its size; a refused one leaves both as they were.
+pub(crate) fn check(t: &mut Checks, p: Picture, room: usize, e: Result<&[u8], u16>) {
+    let before = usize::from(BEFORE);
     let mut out: [u8; 40] = [0; 40];
-    let mut size = usize::from(BEFORE);
+    let mut size = before;
     fill(&mut out, byte_filler);
     let n = room.min(40);
     let answer = pictures::lepsarvu_write_pgm(
@@ -59,13 +59,9 @@ pub(crate) fn check(t: &mut Checks, p: Picture, room: usize, refusal: u16, file:
         &mut out[..n],
         &mut size,
     );
-    let left = if refusal == 0 {
-        file.len()
-    } else {
-        usize::from(BEFORE)
-    };
-    t.check(answer == refusal && size == left);
-    t.check(is_left(&out, file));
+    let length = e.map(|file| file.len());
+    t.check(is_left(answer, size, before, length));
+    t.check(holds(&out, e.unwrap_or(&[])));
 }
 
 // A picture, the bytes that are lent, and the file: the exact bytes, and more; piece A; sides of two digits.
@@ -115,7 +111,7 @@ pub(crate) fn accepted() -> Checks {
             rows,
             pixels,
         };
-        check(&mut t, p, room, 0, file);
+        check(&mut t, p, room, Ok(file));
     }
     t
 }
@@ -154,7 +150,7 @@ pub(crate) fn refusals() -> Checks {
             rows,
             pixels,
         };
-        check(&mut t, p, room, refusal, b"");
+        check(&mut t, p, room, Err(refusal));
     }
     t
 }

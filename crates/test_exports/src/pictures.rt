@@ -2,7 +2,7 @@
 use pyramid::Settings;
 use std::array;
 use test_support::comparing::first_difference;
-use test_support::fillers::{byte_filler, first_changed, index_filler, work_filler};
+use test_support::fillers::{byte_filler, first_changed, unlawful_index, work_filler};
 use test_support::reporting::Checks;
 
 pub(crate) const SETTINGS: Settings = Settings {
@@ -22,8 +22,6 @@ const INDICES: [i16; 21] = [
     41, 54, 59, 41, 47, 39, -10, 23, -15, -2, -14, 6, -10, 14, -5, 20, -12, 0, 5, -11, 22,
 ];
 
-const BINS: [u16; 7] = [7, 2, 0, 0, 0, 0, 0];
-
 // Coding of the picture leaves the indices and the averages.
 fn check_coded(t: &mut Checks) {
     let picture: [u8; 15] = [
@@ -32,9 +30,18 @@ fn check_coded(t: &mut Checks) {
     let averages: [i32; 21] = [
         83, 109, 118, 83, 95, 79, 0, 255, 17, 90, 3, 140, 61, 200, 38, 250, 12, 77, 129, 5, 231,
     ];
-    let mut levels: [i16; 21] = array::from_fn(|i| index_filler(false, i));
+    let mut levels: [i16; 21] = array::from_fn(unlawful_index);
     let mut work: [i32; 24] = array::from_fn(work_filler);
-    let answer = lepsarvu::lepsarvu_coding(3, 5, 1, 6, &BINS, &picture, &mut levels, &mut work);
+    let answer = lepsarvu::lepsarvu_coding(
+        3,
+        5,
+        1,
+        6,
+        &SETTINGS.bins,
+        &picture,
+        &mut levels,
+        &mut work,
+    );
     t.check(answer == 0);
     t.check(levels == INDICES);
     t.check(first_difference(&work, &averages, 21).is_none());
@@ -54,7 +61,7 @@ fn check_rebuilt(t: &mut Checks) {
         5,
         1,
         6,
-        &BINS,
+        &SETTINGS.bins,
         &INDICES,
         &mut picture,
         &mut work,

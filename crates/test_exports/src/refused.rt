@@ -1,23 +1,18 @@
 // Coding and rebuilding that are refused, with what they leave: all as it was.
-// Kept: refusals are numbers, since the exported functions answer numbers; either the settings are faulty or the lengths, so they stand apart.
+// Kept: refusals are numbers, since the exported functions answer numbers. One function for both calls would hold all three buffers, be lent
+// the call as a closure, and compare what the other call only reads: coding reads the picture and writes the levels, rebuilding writes the
+// picture and reads the levels.
 use crate::lent::faulty;
 use crate::pictures::{NODES, PIXELS, SETTINGS};
 use pyramid::Settings;
 use std::array;
-use test_support::fillers::{byte_filler, index_filler, work_filler};
+use test_support::fillers::{byte_filler, lawful_index, unlawful_index, work_filler};
 use test_support::reporting::Checks;
-
-// The places of the lent buffers.
-#[derive(Clone, Copy)]
-struct Lengths {
-    picture: usize,
-    levels: usize,
-    work: usize,
-}
+use test_support::rooms::Lengths;
 
 fn check_coding(t: &mut Checks, s: Settings, n: Lengths, refusal: u16) {
     let picture: [u8; 16] = [200; 16];
-    let mut levels: [i16; 24] = array::from_fn(|i| index_filler(true, i));
+    let mut levels: [i16; 24] = array::from_fn(lawful_index);
     let mut work: [i32; 24] = array::from_fn(work_filler);
     let (levels_before, work_before) = (levels, work);
     let p = n.picture.min(16);
@@ -39,8 +34,7 @@ fn check_coding(t: &mut Checks, s: Settings, n: Lengths, refusal: u16) {
 }
 
 // With indices that are lawful, or with none that is: their refusal, 11, comes last.
-fn check_rebuilding(t: &mut Checks, s: Settings, n: Lengths, lawful: bool, refusal: u16) {
-    let levels: [i16; 24] = array::from_fn(|i| index_filler(lawful, i));
+fn check_rebuilding(t: &mut Checks, s: Settings, n: Lengths, levels: [i16; 24], refusal: u16) {
     let mut picture: [u8; 16] = array::from_fn(byte_filler);
     let mut work: [i32; 24] = array::from_fn(work_filler);
     let (picture_before, work_before) = (picture, work);
@@ -64,8 +58,8 @@ fn check_rebuilding(t: &mut Checks, s: Settings, n: Lengths, lawful: bool, refus
 
 fn check_both(t: &mut Checks, s: Settings, n: Lengths, refusal: u16) {
     check_coding(t, s, n, refusal);
-    check_rebuilding(t, s, n, true, refusal);
-    check_rebuilding(t, s, n, false, refusal);
+    check_rebuilding(t, s, n, array::from_fn(lawful_index), refusal);
+    check_rebuilding(t, s, n, array::from_fn(unlawful_index), refusal);
 }
 
 // Other lengths of the picture, the levels and the work buffer, and the refusal of them.
@@ -95,6 +89,6 @@ pub(crate) fn all() -> Checks {
         };
         check_both(&mut t, SETTINGS, n, refusal);
     }
-    check_rebuilding(&mut t, SETTINGS, lawful, false, 11);
+    check_rebuilding(&mut t, SETTINGS, lawful, array::from_fn(unlawful_index), 11);
     t
 }

@@ -53,7 +53,7 @@ fn check_shown(t: &mut Checks, file: &[u8; 40]) {
         rows,
         pixels: &pixels,
     };
-    pgm_writing::check(t, shown, 40, 0, b"P5\n3 2\n255\n\xC8\x00\xFF\n#5");
+    pgm_writing::check(t, shown, 40, Ok(b"P5\n3 2\n255\n\xC8\x00\xFF\n#5"));
 }
 
 // The file is not in the single form; the last one is.

@@ -1,6 +1,6 @@
 // The exported writer.
 // Kept: refusals are numbers, since the exported functions answer numbers.
-use crate::lent::BEFORE;
+use crate::lent::{BEFORE, is_left};
 use crate::parts::Readings;
 use pyramid::Settings;
 use test_support::comparing::first_difference;
@@ -14,13 +14,14 @@ pub(crate) struct Contents<'a> {
     pub levels: &'a [i16],
 }
 
-// Whether a writing into so many bytes of a filled buffer gives the answer, and the file and its size, with the bytes after it as
-// they were; a refused one leaves all as it was.
-pub(crate) fn gives(c: Contents, room: usize, refusal: u16, file: &[u8]) -> bool {
+// Whether a writing into so many bytes of a filled buffer gives the file and its size, with the bytes after it as they were; a refused
+// one leaves all as it was.
+pub(crate) fn gives(c: Contents, room: usize, e: Result<&[u8], u16>) -> bool {
     let s = c.settings;
-    let r = c.readings;
+    let [drier, press] = c.readings;
+    let before = usize::from(BEFORE);
     let mut out: [u8; 176] = [0; 176];
-    let mut size = usize::from(BEFORE);
+    let mut size = before;
     fill(&mut out, byte_filler);
     let n = room.min(176);
     let answer = lepsarvu::lepsarvu_write_file(
@@ -29,21 +30,17 @@ pub(crate) fn gives(c: Contents, room: usize, refusal: u16, file: &[u8]) -> bool
         s.depth,
         s.kernel,
         &s.bins,
-        r.drier_kind,
-        r.drier_number,
-        r.press_kind,
-        r.press_number,
+        drier.kind,
+        drier.number,
+        press.kind,
+        press.number,
         c.levels,
         &mut out[..n],
         &mut size,
     );
-    let (left, written) = if refusal == 0 {
-        (file.len(), file.len())
-    } else {
-        (usize::from(BEFORE), 0)
-    };
-    answer == refusal
-        && size == left
+    let file = e.unwrap_or(&[]);
+    let written = file.len();
+    is_left(answer, size, before, e.map(|file| file.len()))
         && first_difference(file, &out, written).is_none()
         && first_changed(&out, written, byte_filler).is_none()
 }

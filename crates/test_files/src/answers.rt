@@ -1,9 +1,10 @@
-// What a call is to answer, a value or the number of a refusal, and how its answer differs.
+// What a call is to answer, a value or a refusal, and how its answer differs.
 use crate::parts::{Finding, Part};
 use bale::{Bale, Code, Reading};
 use pyramid::Settings;
 use refusals::Refusal;
 use test_support::comparing::first_difference;
+use test_support::reading::rest;
 use test_support::{answers, decoding};
 
 // What a file holds: settings, and the kinds and the numbers of two readings.
@@ -15,11 +16,10 @@ pub(crate) struct Held {
 }
 
 // A reading in five bytes: its kind and its number.
-fn code_at(said: &[u8], at: u16) -> Code {
-    let at = usize::from(at);
+fn code_in(bytes: &[u8]) -> Code {
     Code {
-        kind: decoding::byte_at(said, at),
-        number: decoding::unsigned32_at(said, at + 1),
+        kind: decoding::byte_at(bytes, 0),
+        number: decoding::unsigned32_at(bytes, 1),
     }
 }
 
@@ -27,17 +27,8 @@ fn code_at(said: &[u8], at: u16) -> Code {
 pub(crate) fn held_in(said: &[u8]) -> Held {
     Held {
         settings: decoding::settings_of(said),
-        before_drier: code_at(said, 22),
-        at_press: code_at(said, 27),
-    }
-}
-
-// What a call is to answer: a value, or where the number is not 0 the refusal of that number.
-// Kept: the number of a refusal, as the vectors and document 01 have it: a test states it without the names of the product.
-pub(crate) fn expected<T: Copy>(number: u16, value: T) -> Result<T, u16> {
-    match number {
-        0 => Ok(value),
-        refusal => Err(refusal),
+        before_drier: code_in(rest(said, 22)),
+        at_press: code_in(rest(said, 27)),
     }
 }
 
@@ -51,10 +42,7 @@ fn numbers(s: Settings) -> [u16; 11] {
 
 // A float that is at most 100 is no NaN, and has bits.
 fn has_bits(x: f32, bits: u32) -> bool {
-    if x <= 100.0 {
-        return f32::to_bits(x) == bits;
-    }
-    false
+    x <= 100.0 && f32::to_bits(x) == bits
 }
 
 // By what the reading holds, and not by what `reading_code` says of it.
@@ -67,24 +55,19 @@ pub(crate) fn is_held(reading: Reading, code: Code) -> bool {
 }
 
 // Reading 0 before the drier, reading 1 at the press.
-fn compare_readings(b: Bale, e: Held) -> Option<Finding> {
-    let note = b.note;
-    if !is_held(note.before_drier, e.before_drier) {
-        return Some(Finding::of_part(Part::ReadingHeld, 0));
-    }
-    if !is_held(note.at_press, e.at_press) {
-        return Some(Finding::of_part(Part::ReadingHeld, 1));
-    }
-    None
-}
-
 fn compare_bale(b: Bale, e: Held) -> Option<Finding> {
     let setting = first_difference(&numbers(b.settings), &numbers(e.settings), 11);
-    Finding::compared(Part::Setting, setting).or(compare_readings(b, e))
+    let note = b.note;
+    let held = [
+        is_held(note.before_drier, e.before_drier),
+        is_held(note.at_press, e.at_press),
+    ];
+    let reading = held.iter().position(|is_held| !*is_held);
+    Finding::compared(Part::Setting, setting).or(Finding::compared(Part::ReadingHeld, reading))
 }
 
 // The first difference of a reader's answer: the refusal, a setting, a reading.
 // Kept: what it shares with test_pgm is `answers::compare`; the values, and how they are compared, differ.
-pub(crate) fn compare(got: Result<Bale, Refusal>, e: Result<Held, u16>) -> Option<Finding> {
+pub(crate) fn compare(got: Result<Bale, Refusal>, e: Result<Held, Refusal>) -> Option<Finding> {
     answers::compare(Part::Refusal, got, e, compare_bale)
 }

@@ -5,7 +5,8 @@ use crate::reading::Head;
 use crate::{answers, readers, reading, writers};
 use std::io;
 use std::io::Read;
-use test_support::reading::{Start, read_exactly, read_head};
+use test_support::numbered::answer_of;
+use test_support::reading::{check_cases, read_exactly};
 use test_support::reporting::Tally;
 
 // Both readers, and for an accepted file the writer.
@@ -22,8 +23,12 @@ fn check_said<R: Read>(data: &mut R, h: Head, file: &[u8]) -> io::Result<Option<
     let mut said: [u8; 32] = [0; 32];
     let mut indices: [u8; 44718] = [0; 44718];
     let is_read = reading::read_said(data, h, &mut said, &mut indices)?;
+    let Some(expected) = answer_of(h.refusal, answers::held_in(&said)) else {
+        let number = usize::from(h.refusal);
+        return Ok(Some(Finding::of_part(Part::UnknownRefusal, number)));
+    };
     let case = Case {
-        expected: answers::expected(h.refusal, answers::held_in(&said)),
+        expected,
         file,
         nodes: h.nodes,
         indices: &indices,
@@ -43,17 +48,17 @@ fn check_case<R: Read>(data: &mut R, h: Head) -> io::Result<Option<Finding>> {
     Ok(Finding::cut_unless(is_read, Part::EndOfVectors).or(found))
 }
 
-// All cases to the end of the vectors. There are fewer than a million.
+// All cases to the end of the vectors.
 pub(crate) fn check_all<R: Read>(data: &mut R) -> io::Result<Tally<Finding>> {
     let mut tally = Tally::new();
-    for _ in 0..1000000 {
-        let mut start: [u8; 8] = [0; 8];
-        let found = match read_head(data, &mut start)? {
-            Start::Whole => check_case(data, reading::head_of(&start))?,
-            Start::NoCase => break,
-            Start::Cut => Some(Finding::of_part(Part::EndOfVectors, 0)),
-        };
-        tally.count(found);
-    }
+    let mut start: [u8; 8] = [0; 8];
+    let cut = Finding::of_part(Part::EndOfVectors, 0);
+    check_cases(
+        data,
+        &mut start,
+        Some(cut),
+        |data, start| check_case(data, reading::head_of(start)),
+        |found| tally.count(found),
+    )?;
     Ok(tally)
 }

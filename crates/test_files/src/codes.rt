@@ -3,7 +3,8 @@ use crate::parts::{Call, Finding, Part};
 use crate::singles::Trial;
 use crate::{answers, singles};
 use bale::Code;
-use test_support::answers::{compare, compare_number};
+use refusals::Refusal;
+use test_support::answers::compare;
 use test_support::reporting::{Tally, of_call};
 
 fn compare_code(x: Trial) -> Option<Finding> {
@@ -13,14 +14,17 @@ fn compare_code(x: Trial) -> Option<Finding> {
     })
 }
 
-// A code stands for a reading that holds it, or is refused with 4.
+// A code stands for a reading that holds it, or is refused.
 fn compare_reading(code: Code, is_lawful: bool) -> Option<Finding> {
-    match bale::coded_reading(code.kind, code.number) {
-        Ok(reading) if is_lawful => {
-            (!answers::is_held(reading, code)).then_some(Finding::of_part(Part::ReadingHeld, 0))
-        }
-        got => compare_number(Part::Refusal, got, if is_lawful { 0 } else { 4 }),
-    }
+    let got = bale::coded_reading(code.kind, code.number);
+    let e = if is_lawful {
+        Ok(code)
+    } else {
+        Err(Refusal::Reading)
+    };
+    compare(Part::Refusal, got, e, |reading, code| {
+        (!answers::is_held(reading, code)).then_some(Finding::of_part(Part::ReadingHeld, 0))
+    })
 }
 
 // A kind and a number, and whether they stand for a reading: not fitted with a number; 100 percent, those next to it, 0, both ends

@@ -40,6 +40,7 @@ impl fmt::Display for Call {
 #[derive(Clone, Copy)]
 pub(crate) enum Part {
     EndOfVectors,
+    UnknownRefusal,
     Refusal,
     Setting,
     ReadingHeld,
@@ -55,6 +56,7 @@ impl fmt::Display for Part {
     fn fmt<W: fmt::Write>(&self, f: &mut fmt::Formatter<W>) -> fmt::Result {
         f.write_str(match *self {
             Part::EndOfVectors => "end of the vectors",
+            Part::UnknownRefusal => "unknown refusal",
             Part::Refusal => "refusal",
             Part::Setting => "setting",
             Part::ReadingHeld => "reading",

@@ -2,17 +2,18 @@
 use crate::answers;
 use crate::answers::Held;
 use crate::parts::{Call, Finding, MOST_PLACES, Part};
+use refusals::Refusal;
 use test_support::comparing::indices;
-use test_support::fillers::{fill, first_changed, index_filler};
+use test_support::fillers::{fill, first_changed, unlawful_index};
 use test_support::reporting::of_call;
 use test_support::rooms::Room;
 
-// What a file is to be read to, how many nodes its shape has, 0 where that is refused, and the indices that it is said to hold.
+// What a file is to be read to, how many nodes its shape has, where that is accepted, and the indices that it is said to hold.
 #[derive(Clone, Copy)]
 pub(crate) struct Case<'a> {
-    pub expected: Result<Held, u16>,
+    pub expected: Result<Held, Refusal>,
     pub file: &'a [u8],
-    pub nodes: u16,
+    pub nodes: Option<u16>,
     pub indices: &'a [u8],
 }
 
@@ -24,38 +25,37 @@ pub(crate) fn check_checking(c: Case) -> Option<Finding> {
 }
 
 // What a reader leaves in the level buffer: an accepted file its indices, a refused one nothing.
-fn compare_levels(is_accepted: bool, said: &[u8], levels: &[i16]) -> Option<Finding> {
-    if is_accepted {
-        return Finding::compared(Part::Index, indices(said, levels, levels.len()));
+fn compare_levels(c: Case, levels: &[i16]) -> Option<Finding> {
+    if c.expected.is_ok() {
+        return Finding::compared(Part::Index, indices(c.indices, levels, levels.len()));
     }
-    let kept = first_changed(levels, 0, |i| index_filler(false, i));
+    let kept = first_changed(levels, 0, unlawful_index);
     Finding::compared(Part::KeptIndex, kept)
 }
 
 // The reader that is lent a filled level buffer.
 fn check_reading(c: Case, levels: &mut [i16]) -> Option<Finding> {
-    fill(levels, |i| index_filler(false, i));
+    fill(levels, unlawful_index);
     let b = bale::read_file(c.file, levels);
-    let left = compare_levels(c.expected.is_ok(), c.indices, levels);
-    answers::compare(b, c.expected).or(left)
+    answers::compare(b, c.expected).or(compare_levels(c, levels))
 }
 
 // The same with as many places as the file has nodes, or some where its shape is refused; or one more or fewer.
 fn check_room(room: Room, c: Case) -> Option<Finding> {
     let mut levels: [i16; MOST_PLACES] = [0; MOST_PLACES];
-    let needed = match c.nodes {
-        0 => 13,
-        nodes => usize::from(nodes),
-    };
+    let needed = usize::from(c.nodes.unwrap_or(13));
     let places = room.places(needed, 1).min(MOST_PLACES);
     let found = check_reading(c, &mut levels[..places]);
     of_call(Call::Reading(room), found)
 }
 
-// With the places that the file needs, and with one place more and one fewer: 6 where the shape is accepted.
+// With the places that the file needs, and with one place more and one fewer, which is refused where the shape is accepted.
 pub(crate) fn check_lent(c: Case) -> Option<Finding> {
     let other = Case {
-        expected: if c.nodes != 0 { Err(6) } else { c.expected },
+        expected: match c.nodes {
+            Some(_) => Err(Refusal::LevelsLength),
+            None => c.expected,
+        },
         ..c
     };
     check_room(Room::Longer, other)

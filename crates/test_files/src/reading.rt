@@ -4,19 +4,21 @@ use std::io::Read;
 use test_support::decoding;
 use test_support::reading::read_exactly;
 
-// How a case starts: the answer of the reader that is lent no level buffer; T, or 0 where the shape is refused; the file's length.
+// How a case starts: the answer of the reader that is lent no level buffer; T, where the shape is accepted; the file's length.
+// Kept: the answer is the number that stands in the bytes of the vectors: `answer_of` says what it stands for.
 #[derive(Clone, Copy)]
-// Kept: the number of a refusal stands in the bytes of the vectors, and is compared as it stands there.
 pub(crate) struct Head {
     pub refusal: u16,
-    pub nodes: u16,
+    pub nodes: Option<u16>,
     pub length: u32,
 }
 
+// The vectors have 0 for T where the shape is refused.
 pub(crate) fn head_of(bytes: &[u8]) -> Head {
+    let nodes = decoding::unsigned16_at(bytes, 2);
     Head {
         refusal: decoding::unsigned16_at(bytes, 0),
-        nodes: decoding::unsigned16_at(bytes, 2),
+        nodes: (nodes != 0).then_some(nodes),
         length: decoding::unsigned32_at(bytes, 4),
     }
 }
@@ -31,5 +33,6 @@ pub(crate) fn read_said<R: Read>(
     if h.refusal != 0 {
         return Ok(true);
     }
-    Ok(read_exactly(data, said, 32)? && read_exactly(data, indices, 2 * usize::from(h.nodes))?)
+    let nodes = usize::from(h.nodes.unwrap_or(0));
+    Ok(read_exactly(data, said, 32)? && read_exactly(data, indices, 2 * nodes)?)
 }

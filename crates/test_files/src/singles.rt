@@ -5,13 +5,14 @@ use crate::parts::Finding;
 use crate::writers::Written;
 use crate::{piece_a, writers};
 use bale::{Code, Note, Reading};
+use refusals::Refusal;
 use test_support::reporting::Tally;
 
-// A reading; and its kind and number in the file, or refusal 4.
+// A reading; and its kind and number in the file, or the refusal.
 #[derive(Clone, Copy)]
 pub(crate) struct Trial {
     pub reading: Reading,
-    pub code: Result<Code, u16>,
+    pub code: Result<Code, Refusal>,
 }
 
 // Kept: a kind is the byte that stands in the file, and is expected as such.
@@ -25,13 +26,8 @@ fn lawful(reading: Reading, kind: u8, number: u32) -> Trial {
 fn unlawful(reading: Reading) -> Trial {
     Trial {
         reading,
-        code: Err(4),
+        code: Err(Refusal::Reading),
     }
-}
-
-// The float next above 100.
-fn above_100() -> f32 {
-    f32::from_bits(0x42C8_0001)
 }
 
 // 100, the floats next to it, both zeros, both ends of the subnormals, the largest float, negatives, both infinities, a NaN; then
@@ -40,7 +36,7 @@ pub(crate) fn trials() -> [Trial; 19] {
     [
         lawful(Reading::Percentage(100.0), 1, 0x42C8_0000),
         lawful(Reading::Percentage(99.99999), 1, 0x42C7_FFFF),
-        unlawful(Reading::Percentage(above_100())),
+        unlawful(Reading::Percentage(100.00001)),
         lawful(Reading::Percentage(0.0), 1, 0),
         unlawful(Reading::Percentage(-0.0)),
         lawful(Reading::Percentage(1.0e-45), 1, 1),
@@ -60,34 +56,46 @@ pub(crate) fn trials() -> [Trial; 19] {
     ]
 }
 
-// Piece A's note with the reading before the drier, or at the press.
-fn note(reading: Reading, is_press: bool) -> Note {
-    if is_press {
-        return piece_a::note(piece_a::before_drier(), reading);
+// Which of piece A's two readings another one stands for.
+#[derive(Clone, Copy)]
+enum Probe {
+    BeforeDrier,
+    AtPress,
+}
+
+impl Probe {
+    // Piece A's note with a reading of this probe.
+    fn note(self, reading: Reading) -> Note {
+        match self {
+            Probe::BeforeDrier => piece_a::note(reading, piece_a::at_press()),
+            Probe::AtPress => piece_a::note(piece_a::before_drier(), reading),
+        }
     }
-    piece_a::note(reading, piece_a::at_press())
+
+    // Piece A's file with the code of a reading of this probe.
+    fn file(self, code: Code) -> [u8; 58]
+        ensures { 58 ≡ length result }
+    {
+        let at = match self {
+            Probe::BeforeDrier => 18,
+            Probe::AtPress => 23,
+        };
+        let mut file = piece_a::file();
+        file[at] = code.kind;
+        file[at + 1..at + 5].copy_from_slice(&code.number.to_le_bytes());
+        file
+    }
 }
 
-// Piece A's file with the kind and the number of that reading, which starts at byte 18 or 23.
-fn file(code: Code, is_press: bool) -> [u8; 58]
-    ensures { 58 ≡ length result }
-{
-    let at = if is_press { 23 } else { 18 };
-    let mut file = piece_a::file();
-    file[at] = code.kind;
-    file[at + 1..at + 5].copy_from_slice(&code.number.to_le_bytes());
-    file
-}
-
-fn check_trial(x: Trial, is_press: bool) -> Option<Finding> {
+fn check_trial(x: Trial, probe: Probe) -> Option<Finding> {
     let mut out: [u8; 64] = [0; 64];
     let written = Written {
         settings: piece_a::SETTINGS,
-        note: note(x.reading, is_press),
+        note: probe.note(x.reading),
         levels: &piece_a::LEVELS[..13],
     };
     match x.code {
-        Ok(code) => writers::check_writing(Ok(&file(code, is_press)), written, &mut out),
+        Ok(code) => writers::check_writing(Ok(&probe.file(code)), written, &mut out),
         Err(refusal) => writers::check_writing(Err(refusal), written, &mut out),
     }
 }
@@ -95,8 +103,8 @@ fn check_trial(x: Trial, is_press: bool) -> Option<Finding> {
 pub(crate) fn check_all() -> Tally<Finding> {
     let mut tally = Tally::new();
     for x in trials() {
-        for is_press in [false, true] {
-            tally.count(check_trial(x, is_press));
+        for probe in [Probe::BeforeDrier, Probe::AtPress] {
+            tally.count(check_trial(x, probe));
         }
     }
     tally

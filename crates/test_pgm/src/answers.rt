@@ -1,31 +1,26 @@
-// How an answer differs from what is expected: a value, or the number of a refusal.
+// How an answer differs from what is expected: a value, or a refusal.
 use crate::parts::{Finding, Part};
 use pgm::PictureSize;
 use refusals::Refusal;
 use test_support::answers;
 
+fn compare_side(side: Part, got: u16, e: u16) -> Option<Finding> {
+    (got != e).then_some(Finding::of_part(side, usize::from(got)))
+}
+
 fn compare_sides(got: PictureSize, e: PictureSize) -> Option<Finding> {
-    if got.columns != e.columns {
-        return Some(Finding::of_part(Part::Columns, usize::from(got.columns)));
-    }
-    if got.rows != e.rows {
-        return Some(Finding::of_part(Part::Rows, usize::from(got.rows)));
-    }
-    None
+    compare_side(Part::Columns, got.columns, e.columns).or(compare_side(
+        Part::Rows,
+        got.rows,
+        e.rows,
+    ))
 }
 
 // The first difference of a reader's answer.
 // Kept: what it shares with test_files is `answers::compare`; the values, and how they are compared, differ.
 pub(crate) fn compare(
     got: Result<PictureSize, Refusal>,
-    e: Result<PictureSize, u16>,
+    e: Result<PictureSize, Refusal>,
 ) -> Option<Finding> {
     answers::compare(Part::Refusal, got, e, compare_sides)
-}
-
-// The first difference of a file's size.
-pub(crate) fn compare_size(got: Result<usize, Refusal>, e: Result<usize, u16>) -> Option<Finding> {
-    answers::compare(Part::Refusal, got, e, |size, e| {
-        (size != e).then_some(Finding::of_part(Part::Size, size))
-    })
 }

@@ -1,14 +1,16 @@
 // The cases of the vectors one after the other.
-// Kept: the number of a refusal stands in the bytes of the vectors, and is compared as it stands there.
+// Kept: an answer is the number that stands in the bytes of the vectors: `answer_of` says what it stands for.
 use crate::parts::{Finding, MOST_PIXELS, MOST_PLACES, MOST_SINGLE, Part};
 use crate::readers::Case;
 use crate::writers::Written;
 use crate::{parts, readers, writers};
 use pgm::PictureSize;
+use refusals::Refusal;
 use std::io;
 use std::io::Read;
 use test_support::decoding;
-use test_support::reading::{Start, read_exactly, read_head};
+use test_support::numbered::answer_of;
+use test_support::reading::{check_cases, read_exactly};
 use test_support::reporting::Tally;
 
 // The readers over an accepted file, whose picture is lent with a place more, and the writer.
@@ -56,16 +58,8 @@ fn check_picture<R: Read>(
     Ok(Finding::cut_unless(is_read, Part::EndOfVectors).or(found))
 }
 
-// Reads what the case says of its file: where it is accepted its sides, its picture and its single form.
-fn check_said<R: Read>(data: &mut R, refusal: u16, file: &[u8]) -> io::Result<Option<Finding>> {
-    if refusal != 0 {
-        let case = Case {
-            expected: Err(refusal),
-            file,
-            pixels: b"",
-        };
-        return Ok(readers::check_read(case));
-    }
+// Reads what the case says of a file that is accepted: its sides, its picture and its single form.
+fn check_accepted<R: Read>(data: &mut R, file: &[u8]) -> io::Result<Option<Finding>> {
     let mut sides: [u8; 4] = [0; 4];
     let is_read = read_exactly(data, &mut sides, 4)?;
     let size = PictureSize {
@@ -76,14 +70,28 @@ fn check_said<R: Read>(data: &mut R, refusal: u16, file: &[u8]) -> io::Result<Op
     Ok(Finding::cut_unless(is_read, Part::EndOfVectors).or(found))
 }
 
+// A file that is refused, of which the case says nothing more.
+fn check_refused(refusal: Refusal, file: &[u8]) -> Option<Finding> {
+    readers::check_read(Case {
+        expected: Err(refusal),
+        file,
+        pixels: b"",
+    })
+}
+
 // The longest file has 65,551 bytes.
 const MOST: usize = 65551;
 
 // Reads the file of a case that starts so.
-fn check_case<R: Read>(data: &mut R, refusal: u16, length: usize) -> io::Result<Option<Finding>> {
+fn check_case<R: Read>(data: &mut R, number: u16, length: usize) -> io::Result<Option<Finding>> {
     let mut file: [u8; MOST] = [0; MOST];
     let is_read = read_exactly(data, &mut file, length)?;
-    let found = check_said(data, refusal, &file[..length.min(MOST)])?;
+    let file = &file[..length.min(MOST)];
+    let found = match answer_of(number, ()) {
+        Some(Ok(())) => check_accepted(data, file)?,
+        Some(Err(refusal)) => check_refused(refusal, file),
+        None => Some(Finding::of_part(Part::UnknownRefusal, usize::from(number))),
+    };
     Ok(Finding::cut_unless(is_read, Part::EndOfVectors).or(found))
 }
 
@@ -111,34 +119,35 @@ impl Found {
         }
     }
 
-    // One more case, of an answer.
-    fn count(&mut self, refusal: u16, finding: Option<Finding>) {
+    // One more case, of an answer, where the vectors say one.
+    fn count(&mut self, answer: Option<Result<(), Refusal>>, finding: Option<Finding>) {
         self.all.count(finding);
-        match refusal {
-            0 => self.accepted.count(finding),
-            1 => self.size.count(finding),
-            16 => self.header.count(finding),
-            17 => self.greatest.count(finding),
-            18 => self.pixels.count(finding),
+        match answer {
+            Some(Ok(())) => self.accepted.count(finding),
+            Some(Err(Refusal::Size)) => self.size.count(finding),
+            Some(Err(Refusal::Header)) => self.header.count(finding),
+            Some(Err(Refusal::Greatest)) => self.greatest.count(finding),
+            Some(Err(Refusal::PixelCount)) => self.pixels.count(finding),
             _ => {}
         }
     }
 }
 
-// All cases to the end of the vectors. There are fewer than a million.
+// All cases to the end of the vectors.
 pub(crate) fn check_all<R: Read>(data: &mut R) -> io::Result<Found> {
     let mut found = Found::new();
-    for _ in 0..1000000 {
-        let mut start: [u8; 6] = [0; 6];
-        let is_read = read_head(data, &mut start)?;
-        let refusal = decoding::unsigned16_at(&start, 0);
-        let length = decoding::unsigned32_at(&start, 2) as usize;
-        let finding = match is_read {
-            Start::Whole => check_case(data, refusal, length)?,
-            Start::NoCase => break,
-            Start::Cut => Some(Finding::of_part(Part::EndOfVectors, 0)),
-        };
-        found.count(refusal, finding);
-    }
+    let mut start: [u8; 6] = [0; 6];
+    let cut = Finding::of_part(Part::EndOfVectors, 0);
+    check_cases(
+        data,
+        &mut start,
+        (None, Some(cut)),
+        |data, start| {
+            let number = decoding::unsigned16_at(start, 0);
+            let length = decoding::unsigned32_at(start, 2) as usize;
+            Ok((answer_of(number, ()), check_case(data, number, length)?))
+        },
+        |(answer, finding)| found.count(answer, finding),
+    )?;
     Ok(found)
 }

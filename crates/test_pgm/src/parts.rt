@@ -44,6 +44,7 @@ impl fmt::Display for Call {
 #[derive(Clone, Copy)]
 pub(crate) enum Part {
     EndOfVectors,
+    UnknownRefusal,
     Refusal,
     Columns,
     Rows,
@@ -58,6 +59,7 @@ impl fmt::Display for Part {
     fn fmt<W: fmt::Write>(&self, f: &mut fmt::Formatter<W>) -> fmt::Result {
         f.write_str(match *self {
             Part::EndOfVectors => "end of the vectors",
+            Part::UnknownRefusal => "unknown refusal",
             Part::Refusal => "refusal",
             Part::Columns => "columns",
             Part::Rows => "rows",
@@ -74,8 +76,5 @@ pub(crate) type Finding = reporting::Finding<Spot<Call, Part>>;
 
 // All bytes but the last; none where there is none.
 pub(crate) fn but_last(bytes: &[u8]) -> &[u8] {
-    match bytes.split_last() {
-        Some((_, others)) => others,
-        None => bytes,
-    }
+    &bytes[..bytes.len().saturating_sub(1)]
 }

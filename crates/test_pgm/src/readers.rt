@@ -2,6 +2,7 @@
 use crate::answers;
 use crate::parts::{Call, Finding, MOST_PIXELS, MOST_PLACES, Part};
 use pgm::PictureSize;
+use refusals::Refusal;
 use test_support::comparing::first_difference;
 use test_support::fillers::{byte_filler, fill, first_changed};
 use test_support::reporting::of_call;
@@ -10,27 +11,30 @@ use test_support::rooms::Room;
 // What a file is to be read to, and the pixels that it is said to hold.
 #[derive(Clone, Copy)]
 pub(crate) struct Case<'a> {
-    pub expected: Result<PictureSize, u16>,
+    pub expected: Result<PictureSize, Refusal>,
     pub file: &'a [u8],
     pub pixels: &'a [u8],
 }
 
 // What a reader leaves in the picture: of an accepted file its pixels, of a refused one nothing.
-fn compare_picture(is_accepted: bool, pixels: &[u8], picture: &[u8]) -> Option<Finding> {
-    if is_accepted {
-        let pixel = first_difference(pixels, picture, picture.len());
-        return Finding::compared(Part::Pixel, pixel);
+fn compare_picture(c: Case, picture: &[u8]) -> Option<Finding> {
+    match c.expected {
+        Ok(_) => {
+            let pixel = first_difference(c.pixels, picture, picture.len());
+            Finding::compared(Part::Pixel, pixel)
+        }
+        Err(_) => {
+            let kept = first_changed(picture, 0, byte_filler);
+            Finding::compared(Part::KeptPixel, kept)
+        }
     }
-    let kept = first_changed(picture, 0, byte_filler);
-    Finding::compared(Part::KeptPixel, kept)
 }
 
 // The reader that is lent a filled picture.
 fn check_reading(c: Case, picture: &mut [u8]) -> Option<Finding> {
     fill(picture, byte_filler);
     let got = pgm::read_pgm(c.file, picture);
-    let left = compare_picture(c.expected.is_ok(), c.pixels, picture);
-    answers::compare(got, c.expected).or(left)
+    answers::compare(got, c.expected).or(compare_picture(c, picture))
 }
 
 // The same with so many places.
@@ -49,17 +53,18 @@ pub(crate) fn check_checking(c: Case) -> Option<Finding> {
 
 // The second reader with as many places as the file has pixels, or some where it is refused; or one more or fewer.
 fn check_room(room: Room, c: Case) -> Option<Finding> {
-    let needed = match c.pixels.len() {
-        0 => 4,
-        n => n.min(MOST_PIXELS),
+    let needed = if c.pixels.is_empty() {
+        4
+    } else {
+        c.pixels.len().min(MOST_PIXELS)
     };
     check_places(Call::Reading(room), c, room.places(needed, 1))
 }
 
-// Both readers, and the second with one place more and one fewer: 5 where the file is accepted.
+// Both readers, and the second with one place more and one fewer, which is refused where the file is accepted.
 pub(crate) fn check_read(c: Case) -> Option<Finding> {
     let other = Case {
-        expected: c.expected.and(Err(5)),
+        expected: c.expected.and(Err(Refusal::PictureLength)),
         ..c
     };
     check_checking(c)

@@ -1,19 +1,21 @@
 // Sizes and writings of every two sides that are at the ends of their range, beside it or at the ends of their type. What they are to be is worked by hand.
+use crate::parts;
 use crate::parts::{Call, Finding, MOST_PIXELS, MOST_PLACES, Part};
 use crate::writers::{AFTER, MOST_ROOM};
-use crate::{answers, parts};
+use refusals::Refusal;
 use test_support::comparing::first_difference;
 use test_support::fillers::{byte_filler, fill, first_changed};
 use test_support::reading::rest;
 use test_support::reporting::{Tally, of_call};
 use test_support::rooms::Room;
+use test_support::sizes::compare_size;
 
 // The number of pixels, the place of the first and the size of the file.
 #[derive(Clone, Copy)]
 struct Layout {
-    pixels: u16,
-    start: u16,
-    size: u16,
+    pixels: usize,
+    start: usize,
+    size: usize,
 }
 
 // The one of 2 by 2, whose lengths are lent for sides that have none.
@@ -23,12 +25,12 @@ const SMALLEST: Layout = Layout {
     size: 15,
 };
 
-// Two sides, and the layout of their file or refusal 1.
+// Two sides, and the layout of their file, or the refusal of the size.
 #[derive(Clone, Copy)]
 struct Worked {
     columns: u16,
     rows: u16,
-    layout: Result<Layout, u16>,
+    layout: Result<Layout, Refusal>,
 }
 
 impl Worked {
@@ -54,7 +56,7 @@ fn worked_of(columns: u16, rows: u16) -> Worked {
             start: 15,
             size: 16656,
         }),
-        _ => Err(1),
+        _ => Err(Refusal::Size),
     };
     Worked {
         columns,
@@ -74,13 +76,14 @@ fn header(columns: u16, rows: u16) -> [u8; 15] {
 }
 
 // What a call is to answer that answers the file's size.
-fn size_of(layout: Result<Layout, u16>) -> Result<usize, u16> {
-    layout.map(|layout| usize::from(layout.size))
+fn size_of(layout: Result<Layout, Refusal>) -> Result<usize, Refusal> {
+    layout.map(|layout| layout.size)
 }
 
 fn check_size(w: Worked) -> Option<Finding> {
     let got = pgm::pgm_size(w.columns, w.rows);
-    of_call(Call::Sizing, answers::compare_size(got, size_of(w.layout)))
+    let size = compare_size(Part::Refusal, Part::Size, got, size_of(w.layout));
+    of_call(Call::Sizing, size)
 }
 
 pub(crate) fn check_sizes() -> Tally<Finding> {
@@ -110,27 +113,25 @@ impl Lent {
         }
     }
 
-    fn room(self, size: u16) -> usize {
-        self.file
-            .map_or(0, |room| room.places(usize::from(size), AFTER))
+    fn room(self, size: usize) -> usize {
+        self.file.map_or(0, |room| room.places(size, AFTER))
     }
 
-    // What is written, or the first of 1, 5 and 8.
-    fn written(self, w: Worked) -> Result<Layout, u16> {
+    // What is written, or the first refusal: of the size, of the picture, of the file.
+    fn written(self, w: Worked) -> Result<Layout, Refusal> {
         match (self.picture, self.file) {
             (Room::Exact, Some(Room::Exact | Room::Longer)) => w.layout,
-            (Room::Exact, _) => w.layout.and(Err(8)),
-            _ => w.layout.and(Err(5)),
+            (Room::Exact, _) => w.layout.and(Err(Refusal::FileLength)),
+            _ => w.layout.and(Err(Refusal::PictureLength)),
         }
     }
 }
 
 // What an accepted writing leaves: a header, the pixels, and the bytes after them as they were.
 fn compare_file(w: Worked, layout: Layout, picture: &[u8], out: &[u8]) -> Option<Finding> {
-    let start = usize::from(layout.start);
-    let byte = first_difference(&header(w.columns, w.rows), out, start);
-    let pixel = first_difference(picture, rest(out, start), usize::from(layout.pixels));
-    let kept = first_changed(out, usize::from(layout.size), byte_filler);
+    let byte = first_difference(&header(w.columns, w.rows), out, layout.start);
+    let pixel = first_difference(picture, rest(out, layout.start), layout.pixels);
+    let kept = first_changed(out, layout.size, byte_filler);
     Finding::compared(Part::Byte, byte)
         .or(Finding::compared(Part::Pixel, pixel))
         .or(Finding::compared(Part::KeptByte, kept))
@@ -139,7 +140,7 @@ fn compare_file(w: Worked, layout: Layout, picture: &[u8], out: &[u8]) -> Option
 // What a writing leaves: a refused one all as it was.
 fn compare_left(
     w: Worked,
-    written: Result<Layout, u16>,
+    written: Result<Layout, Refusal>,
     picture: &[u8],
     out: &[u8],
 ) -> Option<Finding> {
@@ -154,13 +155,14 @@ fn compare_left(
 
 fn check_lent(
     w: Worked,
-    written: Result<Layout, u16>,
+    written: Result<Layout, Refusal>,
     picture: &[u8],
     out: &mut [u8],
 ) -> Option<Finding> {
     fill(out, byte_filler);
     let got = pgm::write_pgm(w.columns, w.rows, picture, out);
-    answers::compare_size(got, size_of(written)).or(compare_left(w, written, picture, out))
+    let size = compare_size(Part::Refusal, Part::Size, got, size_of(written));
+    size.or(compare_left(w, written, picture, out))
 }
 
 fn check_room(w: Worked, lent: Lent, picture: &[u8]) -> Option<Finding> {
@@ -173,11 +175,11 @@ fn check_room(w: Worked, lent: Lent, picture: &[u8]) -> Option<Finding> {
 fn check_writing(w: Worked, lent: Lent) -> Option<Finding> {
     let mut pixels: [u8; MOST_PLACES] = [0; MOST_PLACES];
     fill(&mut pixels, byte_filler);
-    let n = usize::from(w.lent().pixels).min(MOST_PIXELS) + 1;
+    let n = w.lent().pixels.min(MOST_PIXELS) + 1;
     check_room(w, lent, lent.picture_of(&pixels[..n]))
 }
 
-// Each picture and each buffer: every set of 1, 5 and 8.
+// Each picture and each buffer: every set of these refusals.
 fn count_writings(tally: &mut Tally<Finding>, w: Worked) {
     for file in [
         Some(Room::Exact),

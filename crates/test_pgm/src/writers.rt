@@ -1,12 +1,14 @@
 // The writer over an accepted file's picture.
 use crate::parts::{Call, Finding, MOST_SINGLE, Part};
 use crate::readers::Case;
-use crate::{answers, parts, readers};
+use crate::{parts, readers};
 use pgm::PictureSize;
+use refusals::Refusal;
 use test_support::comparing::first_difference;
 use test_support::fillers::{byte_filler, fill, first_changed};
 use test_support::reporting::of_call;
 use test_support::rooms::Room;
+use test_support::sizes::compare_size;
 
 // The longer file buffer has 24 bytes after those of the file.
 pub(crate) const AFTER: usize = 24;
@@ -23,42 +25,43 @@ pub(crate) struct Written<'a> {
 
 // A writing into a filled buffer, and what it leaves: one that is accepted the file, and the bytes after it as they were; a
 // refused one all.
-fn check_writing(e: Result<usize, u16>, w: Written, out: &mut [u8]) -> Option<Finding> {
+fn check_writing(e: Result<usize, Refusal>, w: Written, out: &mut [u8]) -> Option<Finding> {
     fill(out, byte_filler);
     let got = pgm::write_pgm(w.size.columns, w.size.rows, w.picture, out);
     let size = e.unwrap_or(0);
     let byte = first_difference(w.file, out, size);
     let kept = first_changed(out, size, byte_filler);
-    answers::compare_size(got, e)
+    compare_size(Part::Refusal, Part::Size, got, e)
         .or(Finding::compared(Part::Byte, byte))
         .or(Finding::compared(Part::KeptByte, kept))
 }
 
 // A writing into as many bytes as the file has, or into more or one fewer.
-fn check_room(call: Call, room: Room, e: Result<usize, u16>, w: Written) -> Option<Finding> {
+fn check_room(call: Call, room: Room, e: Result<usize, Refusal>, w: Written) -> Option<Finding> {
     let mut out: [u8; MOST_ROOM] = [0; MOST_ROOM];
     let n = room.places(w.file.len(), AFTER).min(MOST_ROOM);
     of_call(call, check_writing(e, w, &mut out[..n]))
 }
 
-// 8 where the buffer lacks a byte.
+// Refused where the buffer lacks a byte.
 fn check_rooms(w: Written) -> Option<Finding> {
-    let size = w.file.len();
-    check_room(Call::Writing(Room::Exact), Room::Exact, Ok(size), w)
-        .or(check_room(Call::Writing(Room::Longer), Room::Longer, Ok(size), w))
-        .or(check_room(Call::Writing(Room::Shorter), Room::Shorter, Err(8), w))
+    let (size, short) = (Ok(w.file.len()), Err(Refusal::FileLength));
+    check_room(Call::Writing(Room::Exact), Room::Exact, size, w)
+        .or(check_room(Call::Writing(Room::Longer), Room::Longer, size, w))
+        .or(check_room(Call::Writing(Room::Shorter), Room::Shorter, short, w))
 }
 
-// A picture of another length: 5.
+// A picture of another length, which is refused.
 fn check_picture(room: Room, w: Written, picture: &[u8]) -> Option<Finding> {
     let other = Written { picture, ..w };
-    check_room(Call::WritingPicture(room), Room::Exact, Err(5), other)
+    let e = Err(Refusal::PictureLength);
+    check_room(Call::WritingPicture(room), Room::Exact, e, other)
 }
 
 // Reads the file that is written into a buffer: the picture.
 fn check_back(w: Written, out: &mut [u8]) -> Option<Finding> {
     let got = pgm::write_pgm(w.size.columns, w.size.rows, w.picture, out);
-    let written = answers::compare_size(got, Ok(w.file.len()));
+    let written = compare_size(Part::Refusal, Part::Size, got, Ok(w.file.len()));
     let case = Case {
         expected: Ok(w.size),
         file: out,
@@ -74,10 +77,10 @@ fn check_read_back(w: Written) -> Option<Finding> {
     check_back(w, &mut out[..n])
 }
 
-// Writes a picture, of which a place more is lent: the single form. With that place, and with one place fewer: 5.
+// Writes a picture, of which a place more is lent: the single form. With that place, and with one place fewer, it is refused.
 pub(crate) fn check_written(w: Written, more: &[u8]) -> Option<Finding> {
     let got = pgm::pgm_size(w.size.columns, w.size.rows);
-    let size = answers::compare_size(got, Ok(w.file.len()));
+    let size = compare_size(Part::Refusal, Part::Size, got, Ok(w.file.len()));
     of_call(Call::Sizing, size)
         .or(check_rooms(w))
         .or(check_picture(Room::Longer, w, more))

@@ -7,32 +7,35 @@ use lib.Dec.{T, eqb}
 use Rattle.mathematics.specs.Definitions.Tests.{all_below}
 use Rattle.pyramid.specs.declared.Settings.{Settings}
 use Rattle.pyramid.specs.Definitions.Settings.{side_ok, size_ok, depth_ok, divides, kernel_ok, slot_ok, bins_ok}
-use Rattle.test_support.specs.Definitions.FaultSets.{chosen}
+use Rattle.refusals.specs.declared.Refusal.{Refusal}
+use Rattle.refusals.specs.declared.Refusal.TheVariants.{Size, Kernel, Bin, Depth, Columns, Rows}
+use Rattle.refusals.specs.Definitions.Numbers.{number}
+use Rattle.test_support.specs.Definitions.FaultSets.{chosen, variant_at}
 use Rattle.test_support.specs.Definitions.FaultySettings.{with_faults}
 
-abbrev fails : Bool → ℕ → List ℕ
-fails holds number = cond holds [] (number ∷ [])
+abbrev fails : Bool → Refusal → List Refusal
+fails holds refusal = cond holds [] (refusal ∷ [])
 
--- the numbers of the settings' rules that are broken, each looked at by itself
-abbrev broken : Settings → List ℕ
+-- the settings' rules that are broken, each looked at by itself
+abbrev broken : Settings → List Refusal
 broken s =
-    fails (size_ok s.columns s.rows) 1
-    ++ (fails (depth_ok s.depth) 13
-    ++ (fails (divides s.depth s.columns) 14
-    ++ (fails (divides s.depth s.rows) 15
-    ++ (fails (kernel_ok s.kernel) 2 ++ fails (bins_ok s) 3))))
+    fails (size_ok s.columns s.rows) Size
+    ++ (fails (depth_ok s.depth) Depth
+    ++ (fails (divides s.depth s.columns) Columns
+    ++ (fails (divides s.depth s.rows) Rows
+    ++ (fails (kernel_ok s.kernel) Kernel ++ fails (bins_ok s) Bin))))
 
-abbrev same : List ℕ → List ℕ → Bool
+abbrev same : List Refusal → List Refusal → Bool
 same [] [] = true
-same [] (n ∷ ns) = false
-same (m ∷ ms) [] = false
-same (m ∷ ms) (n ∷ ns) = eqb m n && same ms ns
+same [] (r ∷ rs) = false
+same (q ∷ qs) [] = false
+same (q ∷ qs) (r ∷ rs) = eqb (number q) (number r) && same qs rs
 
-abbrev table : List ℕ
-table = 1 ∷ 13 ∷ 14 ∷ 15 ∷ 2 ∷ 3 ∷ []
+abbrev table : List Refusal
+table = Size ∷ Depth ∷ Columns ∷ Rows ∷ Kernel ∷ Bin ∷ []
 
 abbrev Exact : Settings → Type 0
-Exact s = T (all_below 64 (λ set. all_below 4 (λ variant. same (broken (with_faults s (chosen set table) variant)) (chosen set table))))
+Exact s = T (all_below 64 (λ set. all_below 4 (λ n. same (broken (with_faults s (chosen set table) (variant_at n))) (chosen set table))))
 
 abbrev base : ℕ → ℕ → ℕ → List ℕ → Settings
 base columns rows depth bins = record { columns = columns; rows = rows; depth = depth; kernel = 4; bins = bins }

@@ -3,3 +3,4 @@ mod Filled
 mod Choosing
 mod FaultySettings
 mod Taking
+mod Cases

@@ -5,4 +5,6 @@ pub mod Tallies
 pub mod FaultSets
 pub mod FaultySettings
 pub mod Rooms
+pub mod Cases
 pub mod Answers
+pub mod Sizes

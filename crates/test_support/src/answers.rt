@@ -1,4 +1,4 @@
-// How a call's answer differs from what is expected of it: a value, or the number of a refusal.
+// How a call's answer differs from what is expected of it: a value, or a refusal, which is shown by its number.
 ghost use Rattle.std.specs.Prelude.{◌≡◌};
 ghost use Rattle.refusals.specs.Definitions.Outcomes.{answer_number};
 ghost use Rattle.test_support.specs.Definitions.Answers.{other_number, other_answer};
@@ -6,24 +6,23 @@ ghost use Rattle.test_support.specs.Definitions.Answers.{other_number, other_ans
 use crate::reporting::{Finding, Spot};
 use refusals::{Refusal, answer_number};
 
-// The number of an answer, where it is not the one that is expected; 0 is that of a value.
-// Kept: the documents name refusals by their numbers, and the vectors hold these: the tests state numbers, whatever names the product has.
-pub fn compare_number<T: Copy, C: Copy, P: Copy>(
+// The number of an answer, where it is not that of what is expected; 0 is that of a value.
+pub fn compare_number<T: Copy, E: Copy, C: Copy, P: Copy>(
     part: P,
     got: Result<T, Refusal>,
-    expected: u16,
+    expected: Result<E, Refusal>,
 ) -> Option<Finding<Spot<C, P>>>
-    ensures { result ≡ other_number part (answer_number got) expected }
+    ensures { result ≡ other_number part (answer_number got) (answer_number expected) }
 {
     let number = answer_number(got);
-    (number != expected).then_some(Finding::of_part(part, usize::from(number)))
+    (number != answer_number(expected)).then_some(Finding::of_part(part, usize::from(number)))
 }
 
 // A value as `values` compares it, and where the call is refused, or is to be, the numbers.
 pub fn compare<T: Copy, E: Copy, C: Copy, P: Copy, F: Fn(T, E) -> Option<Finding<Spot<C, P>>>>(
     part: P,
     got: Result<T, Refusal>,
-    expected: Result<E, u16>,
+    expected: Result<E, Refusal>,
     values: F,
 ) -> Option<Finding<Spot<C, P>>>
     requires { (x : T) (e : E) → F.pre values x e }
@@ -31,6 +30,6 @@ pub fn compare<T: Copy, E: Copy, C: Copy, P: Copy, F: Fn(T, E) -> Option<Finding
 {
     match (got, expected) {
         (Ok(x), Ok(e)) => values(x, e),
-        (_, e) => compare_number(part, got, e.err().unwrap_or(0)),
+        _ => compare_number(part, got, expected),
     }
 }

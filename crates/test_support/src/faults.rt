@@ -1,29 +1,46 @@
-// Sets of faults: one bit for each number of a table, the lowest bit for the first. A fault has four variants: 0, 1, 2, and any other.
-// Kept: faults are the numbers of documents 01 and 02, which the tests state without the names of the product.
-ghost use Rattle.std.specs.Prelude.{◌≡◌, ℕ, cond, ◌<◌, ◌*◌, ◌/◌, ◌%◌, min, Option, Some, slice_get};
-ghost use Rattle.test_support.specs.Definitions.FaultSets.{chosen, member, first};
+// Sets of faults: one bit for each refusal of a table, the lowest bit for the first. A fault has four variants.
+ghost use Rattle.std.specs.Prelude.{◌≡◌, ℕ, cond, ◌*◌, ◌/◌, ◌%◌, ◌<◌, min, Option, Some, slice_get};
+ghost use Rattle.test_support.specs.Definitions.FaultSets.{chosen, member, first, answer_with, place, variant_at, variant_of};
 ghost use Rattle.test_support.specs.Definitions.FaultySettings.{outside, side_with, with_sides, with_depth, with_kernel, with_bins, with_faults};
 ghost use Rattle.test_support.specs.Definitions.Tallies.{tallied};
 
 use crate::reporting::Tally;
 use pyramid::Settings;
+use refusals::Refusal;
 
-// A set of faults, as bits of a table, and which variant of each.
+// Which of its forms a fault has.
+#[derive(Clone, Copy, PartialEq, Eq)]
+pub enum Variant {
+    First,
+    Second,
+    Third,
+    Fourth,
+}
+
+// The four in their order.
+pub const VARIANTS: [Variant; 4] = [
+    Variant::First,
+    Variant::Second,
+    Variant::Third,
+    Variant::Fourth,
+];
+
+// A set of faults, as bits of a table of what refuses them, and which variant each of them has.
 #[derive(Clone, Copy)]
 pub struct Faults<'a> {
     pub bits: u32,
-    pub table: &'a [u16],
-    pub variant: u32,
+    pub table: &'a [Refusal],
+    pub variant: Variant,
 }
 
 impl<'a> Faults<'a> {
-    // Whether a number is in the set.
-    pub fn has(&self, number: u16) -> bool
-        ensures { result ≡ member number (chosen self.now.bits self.now.table.now) }
+    // Whether a fault is in the set.
+    pub fn has(&self, fault: Refusal) -> bool
+        ensures { result ≡ member fault (chosen self.now.bits self.now.table.now) }
     {
         let mut bits = self.bits;
-        for n in self.table {
-            if bits % 2 == 1 && *n == number {
+        for refusal in self.table {
+            if bits % 2 == 1 && *refusal == fault {
                 return true;
             }
             bits /= 2;
@@ -31,52 +48,73 @@ impl<'a> Faults<'a> {
         false
     }
 
-    // The first number of the set, or 0.
-    pub fn first(&self) -> u16
+    // The first fault of the set: what is faulty so is refused with it.
+    pub fn first(&self) -> Option<Refusal>
         ensures { result ≡ first (chosen self.now.bits self.now.table.now) }
     {
         let mut bits = self.bits;
-        for n in self.table {
+        for refusal in self.table {
             if bits % 2 == 1 {
-                return *n;
+                return Some(*refusal);
             }
             bits /= 2;
         }
-        0
+        None
     }
 
-    // What the variant has with a fault of the set, and what it has without.
-    pub fn choose<T: Copy>(&self, number: u16, faulty: [T; 4], lawful: [T; 4]) -> T
-        ensures { Some result ≡ slice_get (cond (member number (chosen self.now.bits self.now.table.now)) faulty lawful) (min self.now.variant 3) }
+    // What is faulty so is to answer: its first fault, or this value where it has none.
+    pub fn answer<T: Copy>(&self, value: T) -> Result<T, Refusal>
+        ensures { result ≡ answer_with value (chosen self.now.bits self.now.table.now) }
     {
-        let variant = self.variant.min(3) as usize;
-        if self.has(number) {
-            faulty[variant]
-        } else {
-            lawful[variant]
+        match self.first() {
+            Some(refusal) => Err(refusal),
+            None => Ok(value),
         }
     }
 
-    // Settings with those of the faults 1, 13, 14, 15, 2 and 3 that are in the set: sides, a depth, a kernel, bins.
+    // The variant of a fault that is in the set.
+    pub fn variant_of(&self, fault: Refusal) -> Option<Variant>
+        ensures { result ≡ variant_of fault (chosen self.now.bits self.now.table.now) self.now.variant }
+    {
+        self.has(fault).then_some(self.variant)
+    }
+
+    // What the variant has with a fault of the set, and what it has without.
+    pub fn choose<T: Copy>(&self, fault: Refusal, faulty: [T; 4], lawful: [T; 4]) -> T
+        ensures { Some result ≡ slice_get (cond (member fault (chosen self.now.bits self.now.table.now)) faulty lawful) (place self.now.variant) }
+    {
+        let values = if self.has(fault) { faulty } else { lawful };
+        match self.variant {
+            Variant::First => values[0],
+            Variant::Second => values[1],
+            Variant::Third => values[2],
+            Variant::Fourth => values[3],
+        }
+    }
+
+    // Settings with those of the faults of a size, a depth, columns, rows, a kernel and a bin that are in the set.
     pub fn put_in(&self, s: Settings) -> Settings
         ensures { result ≡ with_faults s (chosen self.now.bits self.now.table.now) self.now.variant }
     {
-        let d = with_depth(s, self.has(13));
-        let b = with_bins(d, self.has(3), self.variant);
-        let k = with_kernel(b, self.has(2), self.variant);
-        with_sides(k, self.has(1), self.has(14), self.has(15), self.variant)
+        let d = with_depth(s, self.has(Refusal::Depth));
+        let b = with_bins(d, self.variant_of(Refusal::Bin));
+        let k = with_kernel(b, self.variant_of(Refusal::Kernel));
+        let size = self.variant_of(Refusal::Size);
+        with_sides(k, size, self.has(Refusal::Columns), self.has(Refusal::Rows))
     }
 }
 
 // What is found in the first sets of faults, by their bits, each in its four variants.
-pub fn check_sets<F: Copy, C: Fn(u32, u32) -> Option<F>>(sets: u16, check: C) -> Tally<F>
-    requires { (bits variant : ℕ) → C.pre check bits variant }
-    ensures { (found : ℕ → ℕ → Option F) → ((bits variant : ℕ) (r : Option F) → C.post check bits variant r → r ≡ found bits variant)
-        → result ≡ tallied (λ n. found (n / 4) (n % 4)) (4 * sets) }
+pub fn check_sets<F: Copy, C: Fn(u32, Variant) -> Option<F>>(sets: u16, check: C) -> Tally<F>
+    requires { (bits : ℕ) (variant : Variant) → C.pre check bits variant }
+    ensures { (found : ℕ → Variant → Option F) → ((bits : ℕ) (variant : Variant) (r : Option F) → C.post check bits variant r → r ≡ found bits variant)
+        → result ≡ tallied (λ n. found (n / 4) (variant_at (n % 4))) (4 * sets) }
 {
     let mut tally = Tally::new();
-    for n in 0..4 * u32::from(sets) {
-        tally.count(check(n / 4, n % 4));
+    for bits in 0..u32::from(sets) {
+        for variant in VARIANTS {
+            tally.count(check(bits, variant));
+        }
     }
     tally
 }
@@ -89,39 +127,40 @@ fn slot_of(n: u16) -> usize
 }
 
 // A side outside 2 to 129.
-fn outside(is_undivided: bool, variant: u32) -> u16
+fn outside(is_undivided: bool, variant: Variant) -> u16
     ensures { result ≡ outside is_undivided variant }
 {
-    if 2 <= variant {
-        if is_undivided {
-            return 65534;
-        }
-        return 257;
-    }
-    if is_undivided { 130 } else { 1 }
-}
-
-// A side outside 2 to 129, or such that 2 to the depth does not divide it less 1, or both.
-fn side_with(side: u16, is_outside: bool, is_undivided: bool, variant: u32) -> u16
-    ensures { result ≡ side_with side is_outside is_undivided variant }
-{
-    if is_outside {
-        return outside(is_undivided, variant);
-    }
-    if is_undivided {
-        side.saturating_sub(1)
-    } else {
-        side
+    match variant {
+        Variant::First | Variant::Second if is_undivided => 130,
+        Variant::First | Variant::Second => 1,
+        _ if is_undivided => 65534,
+        _ => 257,
     }
 }
 
-fn with_sides(s: Settings, one: bool, fourteen: bool, fifteen: bool, variant: u32) -> Settings
-    ensures { result ≡ with_sides s one fourteen fifteen variant }
+// A side such that 2 to the depth does not divide it less 1, or outside 2 to 129, or both.
+fn side_with(side: u16, outside_by: Option<Variant>, is_undivided: bool) -> u16
+    ensures { result ≡ side_with side outside_by is_undivided }
 {
-    let in_rows = variant % 2 == 1;
+    match outside_by {
+        Some(variant) => outside(is_undivided, variant),
+        None if is_undivided => side.saturating_sub(1),
+        None => side,
+    }
+}
+
+// A size has its fault in the columns or, in every other variant, in the rows.
+fn with_sides(s: Settings, size: Option<Variant>, columns: bool, rows: bool) -> Settings
+    ensures { result ≡ with_sides s size columns rows }
+{
+    let (columns_by, rows_by) = match size {
+        Some(Variant::First | Variant::Third) => (size, None),
+        Some(Variant::Second | Variant::Fourth) => (None, size),
+        None => (None, None),
+    };
     Settings {
-        columns: side_with(s.columns, one && !in_rows, fourteen, variant),
-        rows: side_with(s.rows, one && in_rows, fifteen, variant),
+        columns: side_with(s.columns, columns_by, columns),
+        rows: side_with(s.rows, rows_by, rows),
         ..s
     }
 }
@@ -143,44 +182,40 @@ fn with_depth(s: Settings, is_faulty: bool) -> Settings
 }
 
 // Kernels below and above.
-fn with_kernel(s: Settings, is_faulty: bool, variant: u32) -> Settings
-    ensures { result ≡ cond is_faulty (with_kernel s variant) s }
+fn with_kernel(s: Settings, fault: Option<Variant>) -> Settings
+    ensures { result ≡ with_kernel s fault }
 {
-    if !is_faulty {
-        return s;
-    }
-    let kernel = match variant {
-        0 => 2,
-        1 => 7,
-        2 => 0,
-        _ => 65535,
+    let kernel = match fault {
+        Some(Variant::First) => 2,
+        Some(Variant::Second) => 7,
+        Some(Variant::Third) => 0,
+        Some(Variant::Fourth) => 65535,
+        None => s.kernel,
     };
     Settings { kernel, ..s }
 }
 
 // No bin in slot 0; too large a bin in the slot of the depth, in the slot after it, and in the last.
-fn with_bins(s: Settings, is_faulty: bool, variant: u32) -> Settings
-    ensures { result ≡ cond is_faulty (with_bins s variant) s }
+fn with_bins(s: Settings, fault: Option<Variant>) -> Settings
+    ensures { result ≡ with_bins s fault }
 {
-    if !is_faulty {
-        return s;
-    }
     let mut u = s;
-    match variant {
-        0 => {
+    match fault {
+        Some(Variant::First) => {
             u.bins[0] = 0;
         }
-        1 => {
+        Some(Variant::Second) => {
             let slot = slot_of(s.depth);
             u.bins[slot] = 256;
         }
-        2 => {
+        Some(Variant::Third) => {
             let slot = slot_of(s.depth.saturating_add(1));
             u.bins[slot] = 300;
         }
-        _ => {
+        Some(Variant::Fourth) => {
             u.bins[6] = 65535;
         }
+        None => {}
     }
     u
 }

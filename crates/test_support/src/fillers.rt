@@ -1,7 +1,7 @@
 // What buffers hold before a call, different from place to place, and the first place that a call has changed.
 ghost use Rattle.std.specs.Prelude.{◌≡◌, ℕ, ◌<◌, ◌≤◌, length};
 ghost use Rattle.mathematics.specs.Definitions.Tables.{tabulate};
-ghost use Rattle.test_support.specs.Definitions.Fillers.{byte_filler, index_filler, work_filler};
+ghost use Rattle.test_support.specs.Definitions.Fillers.{byte_filler, lawful_index, unlawful_index, work_filler};
 ghost use Rattle.test_support.specs.Definitions.Comparisons.{Gives, first_other};
 
 use crate::comparing;
@@ -12,13 +12,17 @@ pub fn byte_filler(i: usize) -> u8
     (i % 251) as u8
 }
 
-// Small: an index that is lawful at every bin. Else one that is lawful at none.
-pub fn index_filler(small: bool, i: usize) -> i16
-    ensures { result ≡ index_filler small i }
+// An index that is lawful at every bin.
+pub fn lawful_index(i: usize) -> i16
+    ensures { result ≡ lawful_index i }
 {
-    if small {
-        return (i % 7) as i16;
-    }
+    (i % 7) as i16
+}
+
+// An index that is lawful at no bin.
+pub fn unlawful_index(i: usize) -> i16
+    ensures { result ≡ unlawful_index i }
+{
     !((i % 251 + 20000) as i16)
 }
 

@@ -6,6 +6,8 @@ pub mod comparing;
 pub mod decoding;
 pub mod faults;
 pub mod fillers;
+pub mod numbered;
 pub mod reading;
 pub mod reporting;
 pub mod rooms;
+pub mod sizes;

@@ -3,6 +3,7 @@ ghost use Rattle.std.specs.Prelude.{◌≡◌, ◌≢◌, true, false, ◌*◌, 
 ghost use Rattle.std.specs.Io.KnownBytes.{Consumes, IsAtEnd};
 ghost use Rattle.mathematics.specs.Definitions.Tables.{tabulate};
 ghost use Rattle.mathematics.specs.Inner.Splices.{splice};
+ghost use Rattle.test_support.specs.Definitions.Cases.{CasesRead, Finds};
 ghost use Rattle.test_support.specs.Definitions.Numbers.{signed16};
 
 use crate::{decoding, fillers};
@@ -64,6 +65,32 @@ pub fn read_head<R: Read>(source: &mut R, head: &mut [u8]) -> io::Result<Start>
     } else {
         Start::Cut
     })
+}
+
+// Reads the cases of a program's data to their end: each by its start, for which a buffer is lent, and then by `check`, which reads the rest
+// of it. What is found in a case is handed to `count`; where its start is cut that is `cut`. There are fewer than a million cases.
+pub fn check_cases<R: Read, F: Copy, C: Fn(&mut R, &[u8]) -> io::Result<F>, T: FnMut(F)>(
+    source: &mut R,
+    start: &mut [u8],
+    cut: F,
+    check: C,
+    mut count: T,
+) -> io::Result<()>
+    requires check { C.IsAlwaysCallable check }
+    requires count { T.IsAlwaysCallable count }
+    ensures length { length start.new ≡ length start.old }
+    ensures read { IfOk result (λ _. CasesRead R.remaining (Finds (λ p b r q. C.post check p b r q)) (length start.old) cut
+        (λ p found q. T.step p found tt q) source.old count source.new) }
+{
+    for _ in 0..1000000u32 {
+        let found = match read_head(source, start)? {
+            Start::Whole => check(source, start)?,
+            Start::NoCase => break,
+            Start::Cut => cut,
+        };
+        count(found);
+    }
+    Ok(())
 }
 
 // The bytes from a place on; none where there is no such place.

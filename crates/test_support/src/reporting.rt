@@ -1,5 +1,5 @@
 // What a case is found to be, and the count of cases and mismatches of a group.
-ghost use Rattle.std.specs.Prelude.{◌≡◌, cond, IfOk, Some, None};
+ghost use Rattle.std.specs.Prelude.{◌≡◌, true, false, cond, IfOk, MatchOption, Some, None};
 ghost use Rattle.std.specs.Option.{option_map};
 ghost use Rattle.test_support.specs.Definitions.Tallies.{empty, counted};
 
@@ -36,6 +36,35 @@ impl<C: Display, P: Display> Display for Spot<C, P> {
     }
 }
 
+// A part of no call.
+impl<C, P> From<P> for Spot<C, P> {
+    ghost from_gives = { λ part spot. spot ≡ record { call = None; part = part } };
+
+    fn from(part: P) -> Self {
+        Spot { call: None, part }
+    }
+}
+
+impl<P: Copy> Finding<P> {
+    // A part that differs at a place, where there is one.
+    pub fn compared<Q: Into<P> + Copy>(part: Q, place: Option<usize>) -> Option<Self>
+        ensures { MatchOption place (result ≡ None) (λ k. (p : P) × Q.converts part p × (result ≡ Some (record { part = p; place = k }))) }
+    {
+        place.map(|place| Finding {
+            part: part.into(),
+            place,
+        })
+    }
+
+    // A case that is cut, unless all of it was read.
+    pub fn cut_unless<Q: Into<P> + Copy>(is_read: bool, cut: Q) -> Option<Self>
+        ensures whole { is_read ≡ true → result ≡ None }
+        ensures cut { is_read ≡ false → (p : P) × Q.converts cut p × (result ≡ Some (record { part = p; place = 0 })) }
+    {
+        Finding::compared(cut, (!is_read).then_some(0))
+    }
+}
+
 impl<C: Copy, P: Copy> Finding<Spot<C, P>> {
     // A part that differs, of no call.
     pub fn of_part(part: P, place: usize) -> Self
@@ -55,20 +84,6 @@ impl<C: Copy, P: Copy> Finding<Spot<C, P>> {
         };
         Finding { part, ..self }
     }
-
-    // A part that differs at a place, where there is one, of no call.
-    pub fn compared(part: P, place: Option<usize>) -> Option<Self>
-        ensures { result ≡ option_map (λ k. record { part = record { call = None; part = part }; place = k }) place }
-    {
-        place.map(|place| Finding::of_part(part, place))
-    }
-
-    // A case that is cut, unless all of it was read.
-    pub fn cut_unless(is_read: bool, cut: P) -> Option<Self>
-        ensures { result ≡ cond is_read None (Some (record { part = record { call = None; part = cut }; place = 0 })) }
-    {
-        (!is_read).then_some(Finding::of_part(cut, 0))
-    }
 }
 
 // What is found, of a call.
@@ -79,23 +94,6 @@ pub fn of_call<C: Copy, P: Copy>(
     ensures { result ≡ option_map (λ f. record { part = record { call = Some call; part = f.part.part }; place = f.place }) found }
 {
     found.map(|f| f.of_call(call))
-}
-
-// A part that differs at a place, where there is one.
-pub fn compared<P: Copy>(part: P, place: Option<usize>) -> Option<Finding<P>>
-    ensures { result ≡ option_map (λ k. record { part = part; place = k }) place }
-{
-    place.map(|place| Finding { part, place })
-}
-
-// A case that is cut, unless all of it was read.
-pub fn cut_unless<P: Copy>(is_read: bool, cut: P) -> Option<Finding<P>>
-    ensures { result ≡ cond is_read None (Some (record { part = cut; place = 0 })) }
-{
-    (!is_read).then_some(Finding {
-        part: cut,
-        place: 0,
-    })
 }
 
 // The first case that differs, by its number from 1, and what is found there.

@@ -22,3 +22,11 @@ impl Room {
         }
     }
 }
+
+// How many places of each buffer are lent to a coding or a rebuilding.
+#[derive(Clone, Copy)]
+pub struct Lengths {
+    pub picture: usize,
+    pub levels: usize,
+    pub work: usize,
+}

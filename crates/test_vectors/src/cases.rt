@@ -5,7 +5,7 @@ use crate::{levels_cases, pyramid_cases};
 use std::io;
 use std::io::Read;
 use test_support::decoding;
-use test_support::reading::{Start, read_head};
+use test_support::reading::check_cases;
 use test_support::reporting::Tally;
 
 // The two kinds of files.
@@ -31,20 +31,20 @@ fn check_case<R: Read>(kind: Kind, data: &mut R, head: &[u8]) -> io::Result<Opti
     }
 }
 
-// All cases to the end of the file. A file has fewer than a million.
+// All cases to the end of the file.
 pub(crate) fn check_all<R: Read>(kind: Kind, data: &mut R) -> io::Result<Tally<Finding>> {
     let mut tally = Tally::new();
-    for _ in 0..1000000 {
-        let mut head: [u8; 22] = [0; 22];
-        let found = match read_head(data, &mut head)? {
-            Start::Whole => check_case(kind, data, &head)?,
-            Start::NoCase => break,
-            Start::Cut => Some(Finding {
-                part: Part::EndOfFile,
-                place: 0,
-            }),
-        };
-        tally.count(found);
-    }
+    let mut head: [u8; 22] = [0; 22];
+    let cut = Finding {
+        part: Part::EndOfFile,
+        place: 0,
+    };
+    check_cases(
+        data,
+        &mut head,
+        Some(cut),
+        |data, head| check_case(kind, data, head),
+        |found| tally.count(found),
+    )?;
     Ok(tally)
 }

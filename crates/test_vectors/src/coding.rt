@@ -3,18 +3,17 @@ use crate::comparing;
 use crate::parts::{Finding, Part, refused};
 use crate::shape::{AFTER, MOST_NODES, MOST_PLACES, Shape};
 use test_support::comparing::indices;
-use test_support::fillers::{fill, first_changed, index_filler, work_filler};
+use test_support::fillers::{fill, first_changed, unlawful_index, work_filler};
 use test_support::reading::rest;
-use test_support::reporting::compared;
 
 // What a coding leaves. The bytes hold the indices and then the averages.
 fn compare(z: Shape, bytes: &[u8], levels: &[i16], work: &[i32]) -> Option<Finding> {
     let averages = rest(bytes, 2 * z.nodes);
     let average = comparing::averages(averages, work, z.nodes);
     let after = first_changed(work, z.nodes, work_filler);
-    compared(Part::Index, indices(bytes, levels, z.nodes))
-        .or(compared(Part::Average, average))
-        .or(compared(Part::AfterAverages, after))
+    Finding::compared(Part::Index, indices(bytes, levels, z.nodes))
+        .or(Finding::compared(Part::Average, average))
+        .or(Finding::compared(Part::AfterAverages, after))
 }
 
 // Codes a picture over filled buffers. The bytes hold what comes after the picture.
@@ -25,7 +24,7 @@ fn check_lent(
     levels: &mut [i16],
     work: &mut [i32],
 ) -> Option<Finding> {
-    fill(levels, |i| index_filler(false, i));
+    fill(levels, unlawful_index);
     fill(work, work_filler);
     match pyramid::coding(z.settings, picture, levels, work) {
         Ok(()) => compare(z, bytes, levels, work),

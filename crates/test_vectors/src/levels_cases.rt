@@ -8,7 +8,6 @@ use std::io;
 use std::io::Read;
 use test_support::decoding;
 use test_support::reading::read_exactly;
-use test_support::reporting::cut_unless;
 
 // The bytes after the answer.
 fn bytes_after(answer: u16, z: Shape) -> usize {
@@ -28,7 +27,7 @@ pub(crate) fn check_read<R: Read>(
     let are_indices_read = read_exactly(data, case, end)?;
     let answer = decoding::unsigned16_at(case, 2 * z.nodes);
     let is_rest_read = read_exactly(data, &mut case[end..], bytes_after(answer, z))?;
-    let cut = cut_unless(are_indices_read && is_rest_read, Part::EndOfFile);
+    let cut = Finding::cut_unless(are_indices_read && is_rest_read, Part::EndOfFile);
     let (indices, after) = case.split_at(end);
     Ok(cut.or(rebuilding::check(z, answer, indices, after)))
 }

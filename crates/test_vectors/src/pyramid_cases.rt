@@ -6,7 +6,6 @@ use crate::{coding, comparing, rebuilding};
 use std::io;
 use std::io::Read;
 use test_support::reading::{read_exactly, rest};
-use test_support::reporting::{compared, cut_unless};
 
 // The number of nodes.
 fn check_nodes(z: Shape) -> Option<Finding> {
@@ -23,7 +22,7 @@ fn check_nodes(z: Shape) -> Option<Finding> {
 // The bounds.
 fn check_bounds(z: Shape, bounds: &[u8]) -> Option<Finding> {
     match pyramid::level_bounds(z.settings) {
-        Ok(levels) => compared(Part::Bound, comparing::bounds(bounds, levels, z.levels)),
+        Ok(levels) => Finding::compared(Part::Bound, comparing::bounds(bounds, levels, z.levels)),
         Err(refusal) => Some(refused(Part::BoundsAnswer, refusal)),
     }
 }
@@ -43,7 +42,7 @@ pub(crate) fn check_read<R: Read>(
 ) -> io::Result<Option<Finding>> {
     let bounds = 2 * z.pixels + 8 * z.nodes;
     let is_read = read_exactly(data, case, bounds + 2 * z.levels)?;
-    let cut = cut_unless(is_read, Part::EndOfFile);
+    let cut = Finding::cut_unless(is_read, Part::EndOfFile);
     let settings = check_nodes(z).or(check_bounds(z, rest(case, bounds)));
     Ok(cut.or(settings).or(check_calls(z, case)))
 }

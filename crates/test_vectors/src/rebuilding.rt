@@ -7,23 +7,22 @@ use refusals::answer_number;
 use test_support::comparing::first_difference;
 use test_support::fillers::{byte_filler, fill, first_changed, work_filler};
 use test_support::reading::{load_indices, rest};
-use test_support::reporting::compared;
 
 // What an accepted rebuilding leaves. The bytes hold the values and then the picture.
 fn check_accepted(z: Shape, bytes: &[u8], picture: &[u8], work: &[i32]) -> Option<Finding> {
     let value = comparing::values(bytes, work, z.nodes);
     let pixel = first_difference(rest(bytes, 4 * z.nodes), picture, z.pixels);
     let after = first_changed(work, z.nodes, work_filler);
-    compared(Part::Value, value)
-        .or(compared(Part::Pixel, pixel))
-        .or(compared(Part::AfterValues, after))
+    Finding::compared(Part::Value, value)
+        .or(Finding::compared(Part::Pixel, pixel))
+        .or(Finding::compared(Part::AfterValues, after))
 }
 
 // A refused rebuilding changes nothing.
 fn check_refused(picture: &[u8], work: &[i32]) -> Option<Finding> {
     let pixel = first_changed(picture, 0, byte_filler);
     let place = first_changed(work, 0, work_filler);
-    compared(Part::RefusedPicture, pixel).or(compared(Part::RefusedWork, place))
+    Finding::compared(Part::RefusedPicture, pixel).or(Finding::compared(Part::RefusedWork, place))
 }
 
 // What a rebuilding answers and leaves, to the answer that the case has.

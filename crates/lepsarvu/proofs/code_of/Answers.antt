@@ -1,5 +1,5 @@
 -- `lepsarvu::code_of` meets its contract: the kind and number of a reading that has them, else 0 and 0. Assumes nothing.
-use mathlib.Core.Path.{◌≡◌, refl, ap, ◌∙◌}
+use mathlib.Core.Path.{◌≡◌, refl, ◌∙◌}
 use mathlib.Core.Bool.{Bool, true, false}
 use Prim.Native.Nat.{ℕ}
 use Rattle.std.specs.Float.{binary32}

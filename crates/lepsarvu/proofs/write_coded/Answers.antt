@@ -1,7 +1,6 @@
 -- `lepsarvu::write_coded` meets its contract: each refusal where those before it do not come, and then the writer. Assumes nothing.
-use mathlib.Core.Path.{◌≡◌, sym, ap, ◌∙◌}
+use mathlib.Core.Path.{sym, ◌∙◌}
 use Rattle.refusals.proofs.Outcomes.{none, some, value-is, passed_on}
-use Rattle.bale.specs.declared.Note.{Note}
 use Rattle.lepsarvu.specs.Definitions.Exports.{note_of}
 use Rattle.lepsarvu.proofs.CodedNotes.{settings_first, drier_first, press_first, writer_first, file_kept, file_written, size_answered}
 use Rattle.lepsarvu.proofs.write_coded.Goals as goal

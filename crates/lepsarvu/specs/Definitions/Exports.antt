@@ -1,6 +1,5 @@
 -- Settings and readings as the controllers hand them in and get them: numbers, and arrays of numbers. Assumes nothing.
-use Rattle.std.specs.Prelude.{List, [], ◌∷◌, ℕ, ℤ, length, Result, Ok, Err}
-use Rattle.refusals.specs.declared.Refusal.{Refusal}
+use Rattle.std.specs.Prelude.{List, [], ◌∷◌, ℕ, ℤ, length}
 use Rattle.pyramid.specs.declared.Settings.{Settings}
 use Rattle.pyramid.specs.Definitions.Refusals.{first, settings_refusal}
 use Rattle.pyramid.specs.Definitions.Calls.{leaves}
@@ -12,12 +11,6 @@ use Rattle.bale.specs.Definitions.Calls.{write_refusal, write_file}
 -- settings of the numbers that are handed in
 abbrev pub settings_of : (columns rows depth kernel : ℕ) → List ℕ → Settings
 settings_of columns rows depth kernel bins = record { columns = columns; rows = rows; depth = depth; kernel = kernel; bins = bins }
-
--- ---- what is left where room was lent for a part of an answer
-
-unfoldable pub given : {A B : Type 0} → Result A Refusal → (A → B) → B → B
-given (Ok value) part old = part value
-given (Err refusal) part old = old
 
 -- ---- what a reader fills
 

@@ -1,29 +1,47 @@
--- Lawful settings with faults put in, each in four variants: 0, 1, 2, and any other. Assumes nothing.
-use Rattle.std.specs.Prelude.{Bool, not, cond, ◌&&◌, List, [], ◌∷◌, ℕ, ◌+◌, ◌-◌, ◌%◌, min, leb, eqb, get_or, set, replicate}
+-- Lawful settings with faults put in, each in four variants. Assumes nothing.
+use Rattle.std.specs.Prelude.{Bool, cond, List, ℕ, ◌+◌, ◌-◌, min, set, replicate, Option, None, Some}
 use Rattle.pyramid.specs.declared.Settings.{Settings}
-use Rattle.test_support.specs.Definitions.FaultSets.{member}
+use Rattle.refusals.specs.declared.Refusal.{Refusal}
+use Rattle.refusals.specs.declared.Refusal.TheVariants.{Size, Kernel, Bin, Depth, Columns, Rows}
+use Rattle.test_support.specs.declared.faults.Variant.{Variant}
+use Rattle.test_support.specs.declared.faults.Variant.TheVariants.{First, Second, Third, Fourth}
+use Rattle.test_support.specs.Definitions.FaultSets.{member, variant_of}
 
 -- one more, within 16 bits
 abbrev pub more : ℕ → ℕ
 more n = min (n + 1) 65535
 
--- a side outside 2 to 129, by a small number or, from variant 2 on, a large one: 2^N divides it less 1, whatever N of 0 to 7 is, or it does
--- not, whatever N of 1 to 7 is
-abbrev pub outside : Bool → ℕ → ℕ
-outside undivided variant = cond (leb 2 variant) (cond undivided 65534 257) (cond undivided 130 1)
+-- a side outside 2 to 129, by a small number or, from the third variant on, a large one: 2^N divides it less 1, whatever N of 0 to 7 is, or it
+-- does not, whatever N of 1 to 7 is
+abbrev pub outside : Bool → Variant → ℕ
+outside undivided First = cond undivided 130 1
+outside undivided Second = cond undivided 130 1
+outside undivided Third = cond undivided 65534 257
+outside undivided Fourth = cond undivided 65534 257
 
 -- a lawful side with faults: outside, or less by one, so that 2^N does not divide it less 1, or both
-abbrev pub side_with : ℕ → (isOutside undivided : Bool) → ℕ → ℕ
-side_with side isOutside undivided variant = cond isOutside (outside undivided variant) (cond undivided (side - 1) side)
+abbrev pub side_with : ℕ → Option Variant → (undivided : Bool) → ℕ
+side_with side (Some variant) undivided = outside undivided variant
+side_with side None undivided = cond undivided (side - 1) side
+
+-- the fault of a size is in the columns or, in every other variant, in the rows
+abbrev pub in_columns : Option Variant → Option Variant
+in_columns (Some First) = Some First
+in_columns (Some Third) = Some Third
+in_columns _ = None
+
+abbrev pub in_rows : Option Variant → Option Variant
+in_rows (Some Second) = Some Second
+in_rows (Some Fourth) = Some Fourth
+in_rows _ = None
 
 module _ (s : Settings) where
-  -- faults 1, in the columns or, in every other variant, in the rows; 14, in the columns; 15, in the rows
-  abbrev pub with_sides : (one fourteen fifteen : Bool) → ℕ → Settings
-  with_sides one fourteen fifteen variant =
-      let inRows = eqb (variant % 2) 1 in
+  -- faults of a size, of columns and of rows
+  abbrev pub with_sides : Option Variant → (columns rows : Bool) → Settings
+  with_sides size columns rows =
       record {
-        columns = side_with s.columns (one && not inRows) fourteen variant;
-        rows = side_with s.rows (one && inRows) fifteen variant;
+        columns = side_with s.columns (in_columns size) columns;
+        rows = side_with s.rows (in_rows size) rows;
         depth = s.depth;
         kernel = s.kernel;
         bins = s.bins;
@@ -34,25 +52,31 @@ module _ (s : Settings) where
   with_depth = record { columns = 129; rows = 129; depth = 7; kernel = s.kernel; bins = replicate 7 1 }
 
   -- kernels below and above
-  abbrev pub with_kernel : ℕ → Settings
-  with_kernel variant =
-      record { columns = s.columns; rows = s.rows; depth = s.depth; kernel = get_or (2 ∷ 7 ∷ 0 ∷ []) variant 65535; bins = s.bins }
+  abbrev pub faulty_kernel : Option Variant → ℕ
+  faulty_kernel (Some First) = 2
+  faulty_kernel (Some Second) = 7
+  faulty_kernel (Some Third) = 0
+  faulty_kernel (Some Fourth) = 65535
+  faulty_kernel None = s.kernel
+
+  abbrev pub with_kernel : Option Variant → Settings
+  with_kernel fault = record { columns = s.columns; rows = s.rows; depth = s.depth; kernel = faulty_kernel fault; bins = s.bins }
 
   -- no bin in slot 0; too large a bin in the slot of the depth, in the slot after it, and in the last: all faults at any depth
-  abbrev pub with_bins : ℕ → Settings
-  with_bins variant =
-      record {
-        columns = s.columns;
-        rows = s.rows;
-        depth = s.depth;
-        kernel = s.kernel;
-        bins = get_or (set s.bins 0 0 ∷ set s.bins (min s.depth 6) 256 ∷ set s.bins (min (more s.depth) 6) 300 ∷ []) variant (set s.bins 6 65535);
-      }
+  abbrev pub faulty_bins : Option Variant → List ℕ
+  faulty_bins (Some First) = set s.bins 0 0
+  faulty_bins (Some Second) = set s.bins (min s.depth 6) 256
+  faulty_bins (Some Third) = set s.bins (min (more s.depth) 6) 300
+  faulty_bins (Some Fourth) = set s.bins 6 65535
+  faulty_bins None = s.bins
 
--- the settings with each of the faults 1, 13, 14, 15, 2 and 3 that a list has
-abbrev pub with_faults : Settings → List ℕ → ℕ → Settings
+  abbrev pub with_bins : Option Variant → Settings
+  with_bins fault = record { columns = s.columns; rows = s.rows; depth = s.depth; kernel = s.kernel; bins = faulty_bins fault }
+
+-- the settings with each of the faults of a depth, a bin, a kernel, a size, columns and rows that a list has
+abbrev pub with_faults : Settings → List Refusal → Variant → Settings
 with_faults s faults variant =
-    let d = cond (member 13 faults) (with_depth s) s in
-    let b = cond (member 3 faults) (with_bins d variant) d in
-    let k = cond (member 2 faults) (with_kernel b variant) b in
-    with_sides k (member 1 faults) (member 14 faults) (member 15 faults) variant
+    let d = cond (member Depth faults) (with_depth s) s in
+    let b = with_bins d (variant_of Bin faults variant) in
+    let k = with_kernel b (variant_of Kernel faults variant) in
+    with_sides k (variant_of Size faults variant) (member Columns faults) (member Rows faults)

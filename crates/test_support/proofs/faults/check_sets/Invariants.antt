@@ -1,8 +1,14 @@
--- What the loop of `test_support::faults::check_sets` keeps: the tally of the sets and variants before n.
-use Rattle.std.proofs.Common.{◌≡◌, ℕ, ◌/◌, ◌%◌, Option}
+-- What the loops of `test_support::faults::check_sets` keep: the tally of the sets and variants before.
+use Rattle.std.proofs.Common.{◌≡◌, ℕ, ◌+◌, ◌*◌, ◌/◌, ◌%◌, Option}
+use Rattle.test_support.specs.declared.faults.Variant.{Variant}
+use Rattle.test_support.specs.Definitions.FaultSets.{variant_at}
 use Rattle.test_support.specs.Definitions.Tallies.{tallied}
 use Rattle.test_support.proofs.faults.check_sets.Given as goal
 
-abbrev pub invariant-loop-n : goal.invariant-loop-n
-invariant-loop-n g l =
-    (found : ℕ → ℕ → Option _) → ((bits variant : ℕ) (r : Option _) → goal.C-post g l.check bits variant r → r ≡ found bits variant) → l.tally ≡ tallied (λ k. found (k / 4) (k % 4)) l.n
+abbrev pub invariant-loop-variant : goal.invariant-loop-variant
+invariant-loop-variant g l =
+    (found : ℕ → Variant → Option _) → ((bits : ℕ) (variant : Variant) (r : Option _) → goal.C-post g l.check bits variant r → r ≡ found bits variant) → l.tally ≡ tallied (λ k. found (k / 4) (variant_at (k % 4))) (4 * l.bits + l.variant-index)
+
+abbrev pub invariant-loop-bits : goal.invariant-loop-bits
+invariant-loop-bits g l =
+    (found : ℕ → Variant → Option _) → ((bits : ℕ) (variant : Variant) (r : Option _) → goal.C-post g l.check bits variant r → r ≡ found bits variant) → l.tally ≡ tallied (λ k. found (k / 4) (variant_at (k % 4))) (4 * l.bits)

@@ -3,5 +3,5 @@ use Rattle.std.proofs.Common.{◌≡◌, drop}
 use Rattle.test_support.specs.Definitions.FaultSets.{chosen}
 use Rattle.test_support.proofs.faults.Faults.first.Given as goal
 
-abbrev pub invariant-loop-n : goal.invariant-loop-n
-invariant-loop-n l = chosen l.bits (drop l.n-index l.self.table.now) ≡ chosen l.self.bits l.self.table.now
+abbrev pub invariant-loop-refusal : goal.invariant-loop-refusal
+invariant-loop-refusal l = chosen l.bits (drop l.refusal-index l.self.table.now) ≡ chosen l.self.bits l.self.table.now
