@@ -7,7 +7,7 @@ ghost use Rattle.pgm.specs.Definitions.Calls.{check_pgm, read_pgm, size_answer, 
 ghost use Rattle.lepsarvu.specs.Inner.Given.{given};
 
 use crate::give;
-use pgm::PictureSize;
+use pyramid::Dimensions;
 use refusals::Refusal;
 
 pub fn lepsarvu_pgm_size(columns: u16, rows: u16, size: &mut usize) -> u16
@@ -36,7 +36,7 @@ pub fn lepsarvu_write_pgm(
 
 // Width and height, into what was lent for them.
 #[tactic(auto, unfolding(crate::specs::Inner::Given::given, refusals::specs::Definitions::Outcomes::answer_number))]
-fn give_picture_size(answer: Result<PictureSize, Refusal>, columns: &mut u16, rows: &mut u16) -> u16
+fn give_picture_size(answer: Result<Dimensions, Refusal>, columns: &mut u16, rows: &mut u16) -> u16
     ensures value { result ≡ answer_number answer }
     ensures columns_after { columns.new ≡ given answer (λ size. size.columns) columns.old }
     ensures rows_after { rows.new ≡ given answer (λ size. size.rows) rows.old }

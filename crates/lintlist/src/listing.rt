@@ -1,6 +1,6 @@
 // The listing of a bale file, to a writer.
 use bale::{Bale, Note, Reading};
-use pyramid::{LevelSize, Settings};
+use pyramid::{Dimensions, Settings};
 use std::io;
 use std::io::Write;
 
@@ -43,7 +43,7 @@ fn print_note<W: Write>(out: &mut W, note: Note) -> io::Result<()> {
 fn print_level<W: Write>(
     out: &mut W,
     level: u16,
-    size: LevelSize,
+    size: Dimensions,
     bin: u16,
     bound: u16,
 ) -> io::Result<()> {

@@ -6,18 +6,19 @@ ghost use Rattle.pyramid.specs.Definitions.Refusals.{unless};
 ghost use Rattle.pgm.specs.Definitions.Calls.{check_refusal};
 ghost use Rattle.pgm.specs.Inner.Found.{picture_in};
 
-use crate::{PictureSize, finding};
+use crate::finding;
+use pyramid::Dimensions;
 use refusals::Refusal;
 
 // A picture that a file holds: its size, and where its pixels start.
 #[derive(Clone, Copy)]
 pub struct Picture {
-    pub size: PictureSize,
+    pub size: Dimensions,
     pub pixels: usize,
 }
 
 // The size of a picture. Refused: 1, which is the pyramid's.
-fn lawful_size(columns: u32, rows: u32) -> Result<PictureSize, Refusal>
+fn lawful_size(columns: u32, rows: u32) -> Result<Dimensions, Refusal>
     ensures { result ≡ outcome (unless (size_ok columns rows) 1) (record { columns = columns; rows = rows }) }
 {
     let Ok(columns) = u16::try_from(columns) else {
@@ -27,7 +28,7 @@ fn lawful_size(columns: u32, rows: u32) -> Result<PictureSize, Refusal>
         return Err(Refusal::Size);
     };
     pyramid::deepest_depth(columns, rows)?;
-    Ok(PictureSize { columns, rows })
+    Ok(Dimensions { columns, rows })
 }
 
 // The picture of a file that is lent alone. Refused: 16, 1, 17, 18.

@@ -5,21 +5,15 @@ ghost use Rattle.std.specs.Prelude.{◌≡◌};
 ghost use Rattle.refusals.specs.Definitions.Outcomes.{outcome};
 ghost use Rattle.pgm.specs.Definitions.Calls.{picture_size, check_pgm, read_pgm, size_answer, write_pgm};
 
+use pyramid::Dimensions;
 use refusals::Refusal;
 
 mod checking;
 mod finding;
 mod putting;
 
-// The columns and rows of a picture.
-#[derive(Clone, Copy)]
-pub struct PictureSize {
-    pub columns: u16,
-    pub rows: u16,
-}
-
 // Reads a file: its width and height in the answer, its pixels in the picture. Refused: 16, 1, 17, 18, 5.
-pub fn read_pgm(file: &[u8], picture: &mut [u8]) -> Result<PictureSize, Refusal>
+pub fn read_pgm(file: &[u8], picture: &mut [u8]) -> Result<Dimensions, Refusal>
     ensures value { result ≡ outcome (read_pgm file.now picture.old).answer.refusal
         (picture_size (read_pgm file.now picture.old).answer) }
     ensures picture_after { picture.new ≡ (read_pgm file.now picture.old).picture }
@@ -34,7 +28,7 @@ pub fn read_pgm(file: &[u8], picture: &mut [u8]) -> Result<PictureSize, Refusal>
 }
 
 // The same of a file whose pixels nobody asks for: every number but 5.
-pub fn check_pgm(file: &[u8]) -> Result<PictureSize, Refusal>
+pub fn check_pgm(file: &[u8]) -> Result<Dimensions, Refusal>
     ensures { result ≡ outcome (check_pgm file.now).refusal (picture_size (check_pgm file.now)) }
 {
     Ok(checking::accepted(file)?.size)

@@ -6,7 +6,7 @@ use native.Mathlib.Omega.{arith}
 use borrow.Author.Tests.{le-leb, eq-eqb, leb-true}
 use lib.Dec.{leb}
 use Rattle.pyramid.specs.declared.Settings.{Settings}
-use Rattle.pyramid.specs.declared.LevelSize.{LevelSize}
+use Rattle.pyramid.specs.declared.Dimensions.{Dimensions}
 use Rattle.pyramid.specs.Definitions.Settings.{side_ok, depth_ok, divides, kernel_ok, size_ok}
 use Rattle.pyramid.specs.Definitions.Sizes.{columns_at, rows_at, nodes_at, total}
 use Rattle.pyramid.specs.Inner.Lawful.{Shaped}
@@ -41,11 +41,11 @@ module _ (s : Settings) (level : ℕ) (shape : Shaped s) (h : level ≤ s.depth)
   level_nodes size e = rw (e, level_size) (refl, nodes_small s shape level)
 
 -- the nodes of any level, 0 above N
-pub record LevelNodes (s : Settings) (level : ℕ) (size : LevelSize) : Type 0 where
+pub record LevelNodes (s : Settings) (level : ℕ) (size : Dimensions) : Type 0 where
   pub product : size.rows * size.columns ≡ cond (leb level s.depth) (nodes_at s level) 0
   pub most : size.rows * size.columns ≤ 16641
 
-pub nodes_of_any : (s : Settings) (level : ℕ) → Shaped s → (size : LevelSize) → size ≡ size_of (level_size_answer s level) → LevelNodes s level size
+pub nodes_of_any : (s : Settings) (level : ℕ) → Shaped s → (size : Dimensions) → size ≡ size_of (level_size_answer s level) → LevelNodes s level size
 unfolding level_size_answer leaves
 nodes_of_any s level shape size e = pick (leb level s.depth) refl
   where

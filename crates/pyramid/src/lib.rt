@@ -48,9 +48,9 @@ pub struct Settings {
     pub bins: [u16; 7],
 }
 
-// The columns and rows of a level.
+// The columns and rows of a picture or of a level.
 #[derive(Clone, Copy)]
-pub struct LevelSize {
+pub struct Dimensions {
     pub columns: u16,
     pub rows: u16,
 }
@@ -79,7 +79,7 @@ pub fn shape_nodes(s: Settings) -> Result<u16, Refusal>
 }
 
 // The columns and rows of a level of a shape; 0 by 0 for a level above the depth. Refused: 1, 13, 14, 15, 2.
-pub fn level_size(s: Settings, level: u16) -> Result<LevelSize, Refusal>
+pub fn level_size(s: Settings, level: u16) -> Result<Dimensions, Refusal>
     ensures { result ≡ outcome (level_size_answer s level).refusal (size_of (level_size_answer s level)) }
 {
     let shape = Shape::new(s)?;

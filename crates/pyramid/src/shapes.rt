@@ -7,7 +7,7 @@ ghost use Rattle.pyramid.specs.Definitions.Sizes.{nodes_at, total};
 ghost use Rattle.pyramid.specs.Definitions.Answers.{size_of, level_size_answer};
 ghost use Rattle.pyramid.specs.Inner.Lawful.{Shaped};
 
-use crate::{LevelSize, Settings, checking, layering};
+use crate::{Dimensions, Settings, checking, layering};
 use refusals::Refusal;
 use std::marker::Model;
 
@@ -50,16 +50,16 @@ impl Shape {
     }
 
     // The columns and rows of a level; 0 by 0 for a level above the depth.
-    pub fn level_size(self, level: u16) -> LevelSize
+    pub fn level_size(self, level: u16) -> Dimensions
         ensures { result ≡ size_of (level_size_answer self.settings level) }
     {
         if self.settings.depth < level {
-            return LevelSize {
+            return Dimensions {
                 columns: 0,
                 rows: 0,
             };
         }
-        LevelSize {
+        Dimensions {
             columns: self.columns_at(level) as u16,
             rows: self.rows_at(level) as u16,
         }

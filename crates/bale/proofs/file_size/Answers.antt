@@ -13,4 +13,4 @@ pub returns : goal.returns
 unfolding size_answer
 returns c =
     let said = sym c.in_ok-lawful.ensures in
-    rw (outcome_left, c.file_length.ensures, value-is _ _ said) (accepts _ (none _ _ said))
+    rw (outcome_left, c.file_length.ensures, c.shape.ensures, value-is _ _ said) (accepts _ (none _ _ said))

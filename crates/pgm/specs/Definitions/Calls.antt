@@ -3,7 +3,7 @@ use Rattle.std.specs.Prelude.{List, [], ◌∷◌, ◌++◌, ℕ, ◌+◌, ◌*�
 use Rattle.pyramid.specs.Definitions.Settings.{size_ok}
 use Rattle.pyramid.specs.Definitions.Refusals.{unless, first}
 use Rattle.pyramid.specs.Definitions.Calls.{leaves}
-use Rattle.pgm.specs.declared.PictureSize.{PictureSize}
+use Rattle.pyramid.specs.declared.Dimensions.{Dimensions}
 use Rattle.pgm.specs.Definitions.Header.{header_ok, columns_in, rows_in, greatest_in, pixels_place}
 use Rattle.pgm.specs.Definitions.Files.{pgm_of, pgm_length}
 
@@ -14,7 +14,7 @@ pub record PictureSizeAnswer : Type 0 where
   pub columns : ℕ
   pub rows : ℕ
 
-abbrev pub picture_size : PictureSizeAnswer → PictureSize
+abbrev pub picture_size : PictureSizeAnswer → Dimensions
 picture_size answer = record { columns = answer.columns; rows = answer.rows }
 
 pub record SizeAnswer : Type 0 where

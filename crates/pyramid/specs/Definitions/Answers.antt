@@ -3,7 +3,7 @@
 use Rattle.std.specs.Prelude.{cond, List, ℕ, leb, replicate}
 use Rattle.mathematics.specs.Definitions.Tables.{tabulate}
 use Rattle.pyramid.specs.declared.Settings.{Settings}
-use Rattle.pyramid.specs.declared.LevelSize.{LevelSize}
+use Rattle.pyramid.specs.declared.Dimensions.{Dimensions}
 use Rattle.pyramid.specs.Definitions.Settings.{size_ok}
 use Rattle.pyramid.specs.Definitions.Sizes.{columns_at, rows_at, total}
 use Rattle.pyramid.specs.Definitions.Bound.{bound_at}
@@ -53,7 +53,7 @@ level_size_answer s l =
       rows = leaves (shape_refusal s) (cond (leb l s.depth) (rows_at s l) 0) 0;
     }
 
-abbrev pub size_of : LevelSizeAnswer → LevelSize
+abbrev pub size_of : LevelSizeAnswer → Dimensions
 size_of answer = record { columns = answer.columns; rows = answer.rows }
 
 unfoldable pub deepest_answer : ℕ → ℕ → DeepestAnswer

@@ -3,7 +3,7 @@ use mathlib.Core.Path.{◌≡◌, sym, ap}
 use Prim.Native.Nat.{◌*◌}
 use borrow.Author.Rules.{rules}
 use Rattle.refusals.proofs.Outcomes.{none, value-is, passed_on}
-use Rattle.pgm.specs.declared.PictureSize.{PictureSize}
+use Rattle.pyramid.specs.declared.Dimensions.{Dimensions}
 use Rattle.pgm.proofs.Answers.{no_header, bad_size, whole_within, bad_grey, bad_pixels, all_good}
 use Rattle.pgm.proofs.checking.accepted.Goals as goal
 
@@ -17,8 +17,8 @@ pub returns-then-header-ne255 : goal.returns-then-header-ne255
 returns-then-header-ne255 c = bad_grey _ c.in-Some.ensures (none _ _ (sym c.in_ok-size.ensures)) _ c.if-header-ne255.true
 
 -- columns times rows
-long : {c h : PictureSize} → c ≡ h → c.rows * c.columns ≡ h.rows * h.columns
-long e = ap (λ (s : PictureSize). s.rows * s.columns) e
+long : {c h : Dimensions} → c ≡ h → c.rows * c.columns ≡ h.rows * h.columns
+long e = ap (λ (s : Dimensions). s.rows * s.columns) e
 
 pub overflow_add-header : goal.overflow_add-header
 overflow_add-header c =
