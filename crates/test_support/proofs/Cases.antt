@@ -6,7 +6,7 @@ use Rattle.std.proofs.lemmas.List.{length-append}
 use Rattle.test_support.specs.declared.reading.Start.{Start}
 use Rattle.test_support.specs.declared.reading.Start.TheVariants.{Whole, NoCase, Cut}
 use Rattle.std.proofs.lemmas.Fn.{FoldsTo-push}
-use Rattle.test_support.specs.Definitions.Cases.{Case, CountedCase, Finds}
+use Rattle.test_support.specs.Definitions.Cases.{Case, CountedCase, Finds, IsPart}
 
 pub no_start : {s : Start} → s ≡ NoCase → s ≢ Whole
 no_start e f = cc
@@ -20,8 +20,8 @@ module _ {R F E : Type 0} (remaining : R → Option (List ℕ)) (answers : MutBo
   whole_case {lent = lent} {back = back} {start = start} long taken finding is left =
       rw (is, left) (inl (start.now, lent.now, long, taken, (lent, start, back, finding, refl, refl, refl)))
 
-  pub cut_case : {u : R} {found : F} → IsAtEnd (remaining u) → found ≡ cut → t ≡ u → Case remaining (Finds answers) size cut s found t
-  cut_case end is left = inr (is, rw left end)
+  pub cut_case : {u : R} {found : F} → IsPart (remaining s) (remaining u) size → IsAtEnd (remaining u) → found ≡ cut → t ≡ u → Case remaining (Finds answers) size cut s found t
+  cut_case part end is left = inr (is, rw left part, rw left end)
 
 module _ {R F T : Type 0} (remaining : R → Option (List ℕ)) (finds : R → List ℕ → F → R → Type 0) (size : ℕ) (cut : F) (counts : T → F → T → Type 0) where
   -- so many cases from a source and a count, up to a source and a count

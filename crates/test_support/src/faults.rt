@@ -9,7 +9,7 @@ use pyramid::Settings;
 use refusals::Refusal;
 
 // Which of its forms a fault has.
-#[derive(Clone, Copy, PartialEq, Eq)]
+#[derive(Clone, Copy)]
 pub enum Variant {
     First,
     Second,

@@ -1,9 +1,9 @@
 // Reads the cases of a program's data.
-ghost use Rattle.std.specs.Prelude.{◌≡◌, ◌≢◌, true, false, ◌*◌, ◌/◌, ◌≤◌, ◌<◌, min, length, take, drop, IfOk};
+ghost use Rattle.std.specs.Prelude.{◌≡◌, ◌≢◌, true, false, [], ◌*◌, ◌/◌, ◌≤◌, ◌<◌, min, length, take, drop, IfOk};
 ghost use Rattle.std.specs.Io.KnownBytes.{Consumes, IsAtEnd};
 ghost use Rattle.mathematics.specs.Definitions.Tables.{tabulate};
 ghost use Rattle.mathematics.specs.Inner.Splices.{splice};
-ghost use Rattle.test_support.specs.Definitions.Cases.{CasesRead, Finds};
+ghost use Rattle.test_support.specs.Definitions.Cases.{CasesRead, Finds, IsPart};
 ghost use Rattle.test_support.specs.Definitions.Numbers.{signed16};
 
 use crate::{decoding, fillers};
@@ -56,6 +56,8 @@ pub fn read_head<R: Read>(source: &mut R, head: &mut [u8]) -> io::Result<Start>
     ensures length { length head.new ≡ length head.old }
     ensures taken { IfOk result (λ start. start ≡ Start.Whole → Consumes (R.remaining source.old) (R.remaining source.new) head.new) }
     ensures end { IfOk result (λ start. start ≢ Start.Whole → IsAtEnd (R.remaining source.new)) }
+    ensures none { IfOk result (λ start. start ≡ Start.NoCase → Consumes (R.remaining source.old) (R.remaining source.new) []) }
+    ensures part { IfOk result (λ start. start ≡ Start.Cut → IsPart (R.remaining source.old) (R.remaining source.new) (length head.old)) }
 {
     let got = read_full(source, head)?;
     Ok(if got == head.len() {

@@ -1,20 +1,21 @@
 // The cases of the file `levels`: a rebuilding from levels that no coding made, accepted or refused. A case has its indices,
 // the answer and, if it is accepted, the values and the picture.
-// Kept: the answer is a number in the bytes of the vectors, and is compared as it stands there.
 use crate::parts::{Finding, Part};
 use crate::rebuilding;
 use crate::shape::{MOST_BYTES, Shape};
+use refusals::Refusal;
 use std::io;
 use std::io::Read;
 use test_support::decoding;
+use test_support::numbered::answer_of;
 use test_support::reading::read_exactly;
 
 // The bytes after the answer.
-fn bytes_after(answer: u16, z: Shape) -> usize {
-    if answer != 0 {
-        return 0;
+fn bytes_after(answer: Result<(), Refusal>, z: Shape) -> usize {
+    match answer {
+        Ok(()) => 4 * z.nodes + z.pixels,
+        Err(_) => 0,
     }
-    4 * z.nodes + z.pixels
 }
 
 // Reads a case and checks it.
@@ -25,7 +26,13 @@ pub(crate) fn check_read<R: Read>(
 ) -> io::Result<Option<Finding>> {
     let end = 2 * z.nodes + 2;
     let are_indices_read = read_exactly(data, case, end)?;
-    let answer = decoding::unsigned16_at(case, 2 * z.nodes);
+    let number = decoding::unsigned16_at(case, 2 * z.nodes);
+    let Some(answer) = answer_of(number, ()) else {
+        return Ok(Some(Finding {
+            part: Part::UnknownRefusal,
+            place: usize::from(number),
+        }));
+    };
     let is_rest_read = read_exactly(data, &mut case[end..], bytes_after(answer, z))?;
     let cut = Finding::cut_unless(are_indices_read && is_rest_read, Part::EndOfFile);
     let (indices, after) = case.split_at(end);

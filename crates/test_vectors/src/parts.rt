@@ -6,6 +6,7 @@ use test_support::reporting;
 #[derive(Clone, Copy)]
 pub(crate) enum Part {
     EndOfFile,
+    UnknownRefusal,
     Settings,
     Nodes,
     CodingAnswer,
@@ -37,6 +38,7 @@ impl fmt::Display for Part {
     fn fmt<W: fmt::Write>(&self, f: &mut fmt::Formatter<W>) -> fmt::Result {
         f.write_str(match *self {
             Part::EndOfFile => "end of file",
+            Part::UnknownRefusal => "unknown refusal",
             Part::Settings => "settings",
             Part::Nodes => "number of nodes",
             Part::CodingAnswer => "answer of coding",

@@ -30,7 +30,7 @@ fn check_bounds(z: Shape, bounds: &[u8]) -> Option<Finding> {
 // Codes the picture of a case, and rebuilds it.
 fn check_calls(z: Shape, case: &[u8]) -> Option<Finding> {
     let values = rest(case, z.pixels + 4 * z.nodes);
-    let rebuilt = rebuilding::check(z, 0, rest(case, z.pixels), values);
+    let rebuilt = rebuilding::check(z, Ok(()), rest(case, z.pixels), values);
     coding::check(z, case).or(rebuilt)
 }
 

@@ -1,9 +1,8 @@
 // A rebuilding, accepted or refused.
-// Kept: the answer that is expected is a number in the bytes of the vectors, and is compared as it stands there.
 use crate::comparing;
 use crate::parts::{Finding, Part};
 use crate::shape::{AFTER, MOST_NODES, MOST_PIXELS, MOST_PLACES, Shape};
-use refusals::answer_number;
+use refusals::{Refusal, answer_number};
 use test_support::comparing::first_difference;
 use test_support::fillers::{byte_filler, fill, first_changed, work_filler};
 use test_support::reading::{load_indices, rest};
@@ -28,8 +27,8 @@ fn check_refused(picture: &[u8], work: &[i32]) -> Option<Finding> {
 // What a rebuilding answers and leaves, to the answer that the case has.
 fn compare(
     z: Shape,
-    answer: u16,
-    got: u16,
+    answer: Result<(), Refusal>,
+    got: Result<(), Refusal>,
     bytes: &[u8],
     picture: &[u8],
     work: &[i32],
@@ -37,19 +36,19 @@ fn compare(
     if got != answer {
         return Some(Finding {
             part: Part::RebuildingAnswer,
-            place: usize::from(got),
+            place: usize::from(answer_number(got)),
         });
     }
-    if answer == 0 {
-        return check_accepted(z, bytes, picture, work);
+    match answer {
+        Ok(()) => check_accepted(z, bytes, picture, work),
+        Err(_) => check_refused(picture, work),
     }
-    check_refused(picture, work)
 }
 
 // Rebuilds over filled buffers. The bytes hold the values and then the picture.
 fn check_lent(
     z: Shape,
-    answer: u16,
+    answer: Result<(), Refusal>,
     bytes: &[u8],
     levels: &[i16],
     picture: &mut [u8],
@@ -57,12 +56,17 @@ fn check_lent(
 ) -> Option<Finding> {
     fill(picture, byte_filler);
     fill(work, work_filler);
-    let got = answer_number(pyramid::rebuilding(z.settings, levels, picture, work));
+    let got = pyramid::rebuilding(z.settings, levels, picture, work);
     compare(z, answer, got, bytes, picture, work)
 }
 
 // Rebuilds from indices in bytes, to the answer that the case has.
-pub(crate) fn check(z: Shape, answer: u16, indices: &[u8], bytes: &[u8]) -> Option<Finding> {
+pub(crate) fn check(
+    z: Shape,
+    answer: Result<(), Refusal>,
+    indices: &[u8],
+    bytes: &[u8],
+) -> Option<Finding> {
     let mut levels: [i16; MOST_NODES] = [0; MOST_NODES];
     let mut picture: [u8; MOST_PIXELS] = [0; MOST_PIXELS];
     let mut work: [i32; MOST_PLACES] = [0; MOST_PLACES];

@@ -1,8 +1,12 @@
 -- The cases of a program's data, read one after the other. Assumes nothing.
-use Rattle.std.specs.Prelude.{◌≡◌, ◌⊎◌, List, ℕ, length, Option, Result, Ok}
+use Rattle.std.specs.Prelude.{◌≡◌, ◌⊎◌, List, [], ℕ, ◌<◌, length, Option, Result, Ok}
 use denote.Ref.{Bor, MutBor}
 use Rattle.std.specs.List.{FoldsTo}
 use Rattle.std.specs.Io.KnownBytes.{Consumes, IsAtEnd}
+
+-- some bytes were read, and fewer than so many
+abbrev pub IsPart : (before after : Option (List ℕ)) → (size : ℕ) → Type 0
+IsPart before after size = (part : List ℕ) × (0 < length part) × (length part < size) × Consumes before after part
 
 -- a check that is lent a source and a case's start finds something, and leaves the source so
 abbrev pub Finds : {R F E : Type 0} → (MutBor R → Bor (List ℕ) → Result F E → MutBor R → Type 0) → R → List ℕ → F → R → Type 0
@@ -16,7 +20,7 @@ module _ {R F : Type 0} (remaining : R → Option (List ℕ)) (finds : R → Lis
   abbrev pub Case : R → F → R → Type 0
   Case s found t =
       ((start : List ℕ) × (after : R) × (length start ≡ size) × Consumes (remaining s) (remaining after) start × finds after start found t)
-      ⊎ ((found ≡ cut) × IsAtEnd (remaining t))
+      ⊎ ((found ≡ cut) × IsPart (remaining s) (remaining t) size × IsAtEnd (remaining t))
 
   -- the same, and how what is found is counted
   module _ {T : Type 0} (counts : T → F → T → Type 0) where
@@ -28,4 +32,4 @@ module _ {R F : Type 0} (remaining : R → Option (List ℕ)) (finds : R → Lis
       pub found : List F
       pub last : R × T
       pub read : FoldsTo CountedCase (source, count) found last
-      pub end : ((length found ≡ 1000000) × (left ≡ last.0)) ⊎ IsAtEnd (remaining left)
+      pub end : ((length found ≡ 1000000) × (left ≡ last.0)) ⊎ (Consumes (remaining last.0) (remaining left) [] × IsAtEnd (remaining left))
