@@ -1,6 +1,6 @@
 // How an answer differs from what is expected: a value, or a refusal.
 use crate::parts::{Finding, Part};
-use pgm::PictureSize;
+use pyramid::Dimensions;
 use refusals::Refusal;
 use test_support::answers;
 
@@ -8,7 +8,7 @@ fn compare_side(side: Part, got: u16, e: u16) -> Option<Finding> {
     (got != e).then_some(Finding::of_part(side, usize::from(got)))
 }
 
-fn compare_sides(got: PictureSize, e: PictureSize) -> Option<Finding> {
+fn compare_sides(got: Dimensions, e: Dimensions) -> Option<Finding> {
     compare_side(Part::Columns, got.columns, e.columns).or(compare_side(
         Part::Rows,
         got.rows,
@@ -19,8 +19,8 @@ fn compare_sides(got: PictureSize, e: PictureSize) -> Option<Finding> {
 // The first difference of a reader's answer.
 // Kept: what it shares with test_files is `answers::compare`; the values, and how they are compared, differ.
 pub(crate) fn compare(
-    got: Result<PictureSize, Refusal>,
-    e: Result<PictureSize, Refusal>,
+    got: Result<Dimensions, Refusal>,
+    e: Result<Dimensions, Refusal>,
 ) -> Option<Finding> {
     answers::compare(Part::Refusal, got, e, compare_sides)
 }

@@ -4,7 +4,7 @@ use crate::parts::{Finding, MOST_PIXELS, MOST_PLACES, MOST_SINGLE, Part};
 use crate::readers::Case;
 use crate::writers::Written;
 use crate::{parts, readers, writers};
-use pgm::PictureSize;
+use pyramid::Dimensions;
 use refusals::Refusal;
 use std::io;
 use std::io::Read;
@@ -14,7 +14,7 @@ use test_support::reading::{check_cases, read_exactly};
 use test_support::reporting::Tally;
 
 // The readers over an accepted file, whose picture is lent with a place more, and the writer.
-fn check_file(size: PictureSize, file: &[u8], more: &[u8], single: &[u8]) -> Option<Finding> {
+fn check_file(size: Dimensions, file: &[u8], more: &[u8], single: &[u8]) -> Option<Finding> {
     let picture = parts::but_last(more);
     let written = Written {
         size,
@@ -32,7 +32,7 @@ fn check_file(size: PictureSize, file: &[u8], more: &[u8], single: &[u8]) -> Opt
 // Reads the single form that a case says.
 fn check_single<R: Read>(
     data: &mut R,
-    size: PictureSize,
+    size: Dimensions,
     file: &[u8],
     more: &[u8],
 ) -> io::Result<Option<Finding>> {
@@ -48,7 +48,7 @@ fn check_single<R: Read>(
 // Reads the picture that a case says.
 fn check_picture<R: Read>(
     data: &mut R,
-    size: PictureSize,
+    size: Dimensions,
     file: &[u8],
 ) -> io::Result<Option<Finding>> {
     let mut pixels: [u8; MOST_PLACES] = [0; MOST_PLACES];
@@ -62,7 +62,7 @@ fn check_picture<R: Read>(
 fn check_accepted<R: Read>(data: &mut R, file: &[u8]) -> io::Result<Option<Finding>> {
     let mut sides: [u8; 4] = [0; 4];
     let is_read = read_exactly(data, &mut sides, 4)?;
-    let size = PictureSize {
+    let size = Dimensions {
         columns: decoding::unsigned16_at(&sides, 0),
         rows: decoding::unsigned16_at(&sides, 2),
     };

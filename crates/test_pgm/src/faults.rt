@@ -2,7 +2,7 @@
 use crate::parts::{Call, Finding};
 use crate::readers;
 use crate::readers::Case;
-use pgm::PictureSize;
+use pyramid::Dimensions;
 use refusals::Refusal;
 use test_support::faults::{Faults, Variant, check_sets};
 use test_support::reporting::Tally;
@@ -63,8 +63,8 @@ fn file_with(faults: Faults) -> [u8; 20] {
 }
 
 // The size of the file, or the first fault of the set.
-fn expected(faults: Faults) -> Result<PictureSize, Refusal> {
-    faults.answer(PictureSize {
+fn expected(faults: Faults) -> Result<Dimensions, Refusal> {
+    faults.answer(Dimensions {
         columns: 2,
         rows: 2,
     })

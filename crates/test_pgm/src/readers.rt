@@ -1,7 +1,7 @@
 // The two readers over a file.
 use crate::answers;
 use crate::parts::{Call, Finding, MOST_PIXELS, MOST_PLACES, Part};
-use pgm::PictureSize;
+use pyramid::Dimensions;
 use refusals::Refusal;
 use test_support::comparing::first_difference;
 use test_support::fillers::{byte_filler, fill, first_changed};
@@ -11,7 +11,7 @@ use test_support::rooms::Room;
 // What a file is to be read to, and the pixels that it is said to hold.
 #[derive(Clone, Copy)]
 pub(crate) struct Case<'a> {
-    pub expected: Result<PictureSize, Refusal>,
+    pub expected: Result<Dimensions, Refusal>,
     pub file: &'a [u8],
     pub pixels: &'a [u8],
 }

@@ -2,7 +2,7 @@
 use crate::parts::{Call, Finding, MOST_SINGLE, Part};
 use crate::readers::Case;
 use crate::{parts, readers};
-use pgm::PictureSize;
+use pyramid::Dimensions;
 use refusals::Refusal;
 use test_support::comparing::first_difference;
 use test_support::fillers::{byte_filler, fill, first_changed};
@@ -18,7 +18,7 @@ pub(crate) const MOST_ROOM: usize = MOST_SINGLE + AFTER;
 // A picture, and the file that is to be made of it.
 #[derive(Clone, Copy)]
 pub(crate) struct Written<'a> {
-    pub size: PictureSize,
+    pub size: Dimensions,
     pub picture: &'a [u8],
     pub file: &'a [u8],
 }
