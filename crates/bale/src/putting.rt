@@ -1,6 +1,6 @@
 // The sections of a file, each in the part of the writer's buffer that is its own (document 01, "Bale file").
 // Kept: each function asks that its part is as long as what it writes there; how long that is differs from section to section.
-ghost use Rattle.std.specs.Prelude.{◌≡◌, ◌++◌, ◌∷◌, ◌+◌, ◌*◌, ◌≤◌, ◌<◌, T, length, drop};
+ghost use Rattle.std.specs.Prelude.{◌≡◌, ◌++◌, ◌∷◌, ◌+◌, ◌*◌, ◌<◌, T, length, drop};
 ghost use Rattle.pyramid.specs.Definitions.Sizes.{total};
 ghost use Rattle.bale.specs.Definitions.Words.{le32};
 ghost use Rattle.bale.specs.Definitions.Readings.{note_ok};

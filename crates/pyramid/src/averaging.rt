@@ -1,6 +1,8 @@
 // REDUCE (document 01, "Pyramid steps"): down the columns into a row of sums, then along that row, with one rounding at the end.
 // Kept: `Small` in clauses, here and in expanding.rt and copying.rt: the bound differs from step to step (4,096; 524,288; 8,388,608), and
-// what is small is a slice that was just written. Five and three values next to one another are the taps.
+// what is small is a slice that was just written.
+// Kept: five values (places) one by one, in expanding.rt three: they come from five rows or columns that the edge reflects, so an array
+// would be filled from five places at each node, to be taken apart again by the weights.
 ghost use Rattle.std.specs.Prelude.{◌≡◌, ◌+◌, ◌-◌, ◌*◌, ◌/◌, ◌%◌, ◌≤◌, ◌<◌, pos, ◌+ℤ◌, ◌*ℤ◌, length, get_or};
 ghost use Rattle.mathematics.specs.Definitions.Sums.{sum};
 ghost use Rattle.mathematics.specs.Definitions.Tables.{tabulate};

@@ -1,5 +1,5 @@
 // The bound of each level (document 01, "Pyramid steps").
-ghost use Rattle.std.specs.Prelude.{◌≡◌, ◌≤◌, ◌<◌};
+ghost use Rattle.std.specs.Prelude.{◌≡◌, ◌≤◌};
 ghost use Rattle.pyramid.specs.Definitions.Bound.{magnified};
 ghost use Rattle.pyramid.specs.Definitions.Answers.{bound_slots};
 

@@ -1,8 +1,7 @@
 // Rows and levels from one lent buffer to another: pixels, indices, values and the final picture.
-ghost use Rattle.std.specs.Prelude.{◌≡◌, map, ◌+◌, ◌≤◌, pos, ◌+ℤ◌, ◌-ℤ◌, ◌*ℤ◌, length, get_or};
+ghost use Rattle.std.specs.Prelude.{◌≡◌, map, ◌+◌, pos, ◌+ℤ◌, ◌-ℤ◌, ◌*ℤ◌, length, get_or};
 ghost use Rattle.mathematics.specs.Definitions.Tests.{all};
 ghost use Rattle.mathematics.specs.Definitions.Tables.{tabulate};
-ghost use Rattle.mathematics.specs.Inner.Splices.{splice};
 ghost use Rattle.quantizer.specs.Definitions.Bins.{bin_index};
 ghost use Rattle.pyramid.specs.Definitions.Rebuilding.{clamp};
 ghost use Rattle.pyramid.specs.Inner.Rows.{Small, IndicesWithin, ValuesWithin};

@@ -1,4 +1,6 @@
 // EXPAND (document 01, "Pyramid steps"): down the columns into a row of sums, then along that row, with one rounding at the end.
+// Kept: a level, a row's number and the weights, here and in averaging.rt: a struct of the three would be made anew for each row, since the
+// row is what changes from call to call.
 ghost use Rattle.std.specs.Prelude.{◌≡◌, ◌+◌, ◌-◌, ◌*◌, ◌/◌, ◌≤◌, ◌<◌, pos, ◌+ℤ◌, ◌*ℤ◌, length, get_or};
 ghost use Rattle.mathematics.specs.Definitions.Sums.{sum};
 ghost use Rattle.mathematics.specs.Definitions.Tables.{tabulate};

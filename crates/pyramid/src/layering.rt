@@ -44,7 +44,8 @@ fn predict_row(level: Level, j: usize, before: &[i32], row: &mut [i32])
     }
 }
 
-// Kept beside `value_level`: this one reads the work buffer that the other writes, so that no closure could borrow it for both.
+// Kept beside `value_level`: this one reads the work buffer that the other writes, and their rows are of two types; a closure for the row
+// would need its clause over what it borrows.
 // The indices of a level, from the averages.
 fn index_level(level: Level, work: &[i32], levels: &mut [i16])
     requires { IndexLevel level.settings level.number work.now levels.old }

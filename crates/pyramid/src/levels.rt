@@ -37,6 +37,7 @@ impl LawfulSettings {
 }
 
 impl Level {
+    // Kept beside that of all settings: each makes the shape of the settings in its own struct.
     fn shape(self) -> Shape
         ensures { result.settings ≡ self.settings }
     {
@@ -60,6 +61,7 @@ impl Level {
         }
     }
 
+    // Kept, with `rows` and `nodes`: three names of the papers, each the shape's for this level.
     pub fn columns(self) -> usize
         ensures { (result ≡ columns_at self.settings self.number) × (result ≤ 129) }
     {

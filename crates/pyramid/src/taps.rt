@@ -1,5 +1,5 @@
 // The weights, the edge, and the sums of products that REDUCE and EXPAND are made of (document 01, "Pyramid steps").
-ghost use Rattle.std.specs.Prelude.{◌≡◌, ◌+◌, ◌-◌, ◌*◌, ◌≤◌, ◌<◌, pos, ◌+ℤ◌, ◌*ℤ◌};
+ghost use Rattle.std.specs.Prelude.{◌≡◌, ◌+◌, ◌-◌, ◌*◌, ◌≤◌, pos, ◌+ℤ◌, ◌*ℤ◌};
 ghost use Rattle.pyramid.specs.Inner.Lawful.{Kernel};
 ghost use Rattle.pyramid.specs.Definitions.Weights.{weight};
 ghost use Rattle.pyramid.specs.Definitions.Edge.{reflect};
