@@ -1,8 +1,8 @@
 // The sections of a file, each in the part of the writer's buffer that is its own (document 01, "Bale file").
 // Kept: each function asks that its part is as long as what it writes there; how long that is differs from section to section.
-ghost use Rattle.std.specs.Prelude.{◌≡◌, ◌++◌, ◌∷◌, ◌+◌, ◌*◌, ◌<◌, T, length, drop};
+ghost use Rattle.std.specs.Prelude.{◌≡◌, ◌++◌, ◌∷◌, map, ◌+◌, ◌*◌, ◌<◌, T, length, drop};
 ghost use Rattle.pyramid.specs.Definitions.Sizes.{total};
-ghost use Rattle.bale.specs.Definitions.Words.{le32};
+ghost use Rattle.bale.specs.Definitions.Words.{le32, words, index_word};
 ghost use Rattle.bale.specs.Definitions.Readings.{note_ok};
 ghost use Rattle.bale.specs.Definitions.Files.{shape_section, bins_section, readings_section, level_section, level_sections, file_of, file_length};
 ghost use Rattle.bale.specs.Definitions.Reader.{levels_place};
@@ -57,16 +57,24 @@ fn put_readings(note: Note, section: &mut [u8])
     put_code(note.at_press.code(), at_press);
 }
 
+// The numbers of indices.
+fn put_indices(indices: &[i16], bytes: &mut [u8])
+    requires { length bytes.old ≡ 2 * length indices.now }
+    ensures { bytes.new ≡ words (map index_word indices.now) }
+{
+    for (i, index) in indices.iter().enumerate() {
+        bytes[2 * i..2 * i + 2].copy_from_slice(&index.to_le_bytes());
+    }
+}
+
 // A level's section.
 fn put_level(indices: &[i16], section: &mut [u8])
     requires { (length indices.now < 65536) × (length section.old ≡ 2 + 2 * length indices.now) }
     ensures { section.new ≡ level_section indices.now }
 {
-    let (count, words) = section.split_at_mut(2);
+    let (count, numbers) = section.split_at_mut(2);
     count.copy_from_slice(&(indices.len() as u16).to_le_bytes());
-    for (i, index) in indices.iter().enumerate() {
-        words[2 * i..2 * i + 2].copy_from_slice(&index.to_le_bytes());
-    }
+    put_indices(indices, numbers);
 }
 
 // The sections of all levels, level N first.

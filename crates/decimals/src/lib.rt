@@ -54,6 +54,18 @@ pub fn put_decimal(n: u32, buffer: &mut [u8], at: usize) -> Option<usize>
     Some(count)
 }
 
+// A number of so many digits; `None` of none.
+#[tactic(auto, unfolding(crate::specs::Definitions::Text::number_found))]
+fn number_of(value: u32, digits: usize) -> Option<Number>
+    ensures { result ≡ number_found (record { value = value; digits = digits }) }
+{
+    if digits == 0 {
+        None
+    } else {
+        Some(Number { value, digits })
+    }
+}
+
 // The number of at most so many digits, and never more than nine, that begins at a place; `None` where no digit stands there.
 // Kept: a text and a place in it. Past the end no number stands, and that is told here and not by each caller.
 pub fn number_at(text: &[u8], at: usize, most: usize) -> Option<Number>
@@ -61,16 +73,12 @@ pub fn number_at(text: &[u8], at: usize, most: usize) -> Option<Number>
 {
     let rest = text.get(at..)?;
     let front = rest.get(..most.min(9)).unwrap_or(rest);
-    let digits = front
-        .iter()
-        .position(|b| !b.is_ascii_digit())
-        .unwrap_or(front.len());
-    if digits == 0 {
-        return None;
-    }
     let mut value = 0;
-    for byte in &front[..digits] {
+    for (i, byte) in front.iter().enumerate() {
+        if !byte.is_ascii_digit() {
+            return number_of(value, i);
+        }
         value = 10 * value + (byte - b'0') as u32;
     }
-    Some(Number { value, digits })
+    number_of(value, front.len())
 }
