@@ -9,6 +9,8 @@ use native.Mathlib.Omega.{arith}
 use borrow.Author.Tests.{lt-ltb, le-ltb, eqb-true}
 use lib.Dec.{T, ltb, eqb}
 use Rattle.std.specs.Prelude.{Result, Ok, Err}
+use Rattle.std.specs.Bool.{then_some}
+use Rattle.std.specs.Option.{ok_or}
 use Rattle.refusals.specs.declared.Refusal.{Refusal}
 use Rattle.refusals.specs.declared.Refusal.TheVariants.{Reading as Unlawful}
 use Rattle.refusals.specs.Definitions.Outcomes.{outcome}
@@ -190,10 +192,17 @@ module _ (ok : Bool) (r : Reading) where
   probed_no : ok ≡ false → Err Unlawful ≡ outcome (probe_where ok r).refusal (probe_where ok r).reading
   probed_no e = refuses r Unlawful (sym (unless_fails 4 e)) ∙ probed
 
-pub decode_none : {k : ℕ} (n : ℕ) {a : Result Reading Refusal} → k ≡ 0 → a ≡ outcome (unless (eqb n 0) 4) NotFitted
-    → a ≡ outcome (decode k n).refusal (decode k n).reading
+  -- a reading where its rule holds, else the refusal
+  held : ok_or (then_some ok r) Unlawful ≡ outcome (probe_where ok r).refusal (probe_where ok r).reading
+  held = pick ok ∙ probed
+    where
+      pick : (b : Bool) → ok_or (then_some b r) Unlawful ≡ outcome (unless b 4) r
+      pick true = accepts r (unless_passes 4 refl)
+      pick false = refuses r Unlawful (sym (unless_fails 4 refl))
+
+pub decode_none : {k : ℕ} (n : ℕ) → k ≡ 0 → ok_or (then_some (eqb n 0) NotFitted) Unlawful ≡ outcome (decode k n).refusal (decode k n).reading
 unfolding decode
-decode_none n p e = rw p (e ∙ probed _ _)
+decode_none n p = rw p (held _ _)
 
 module _ (n : ℕ) where
   pub decode_percentage : n ≤ 0x7F80_0000 → le (of_bits binary32 n) hundred ≡ true
@@ -209,10 +218,9 @@ module _ (n : ℕ) where
   unfolding decode
   decode_beyond h = probed_no _ _ (percentage_beyond n h)
 
-pub decode_fault : {k : ℕ} (n : ℕ) {ok : Bool} {a : Result Reading Refusal} → k ≡ 2 → ok ≡ fault_ok n → a ≡ outcome (unless ok 4) (Fault n)
-    → a ≡ outcome (decode k n).refusal (decode k n).reading
+pub decode_fault : {k : ℕ} (n : ℕ) → k ≡ 2 → ok_or (then_some (fault_ok n) (Fault n)) Unlawful ≡ outcome (decode k n).refusal (decode k n).reading
 unfolding decode
-decode_fault n p f e = rw (p, ← f) (e ∙ probed _ _)
+decode_fault n p = rw p (held _ _)
 
 pub decode_other : (k n : ℕ) → 3 ≤ k → Err Unlawful ≡ outcome (decode k n).refusal (decode k n).reading
 unfolding decode

@@ -1,7 +1,6 @@
 // Probe readings, and the kind and the number that stand for one (document 01, "Bale file").
 ghost use Rattle.std.specs.Prelude.{◌≡◌, T};
 ghost use Rattle.refusals.specs.Definitions.Outcomes.{outcome};
-ghost use Rattle.pyramid.specs.Definitions.Refusals.{unless};
 ghost use Rattle.bale.specs.Definitions.Readings.{fault_ok, code_in, code_of, reading_ok, note_ok, decode};
 
 use crate::{Code, Note, Reading};
@@ -66,17 +65,6 @@ impl TryFrom<Reading> for Code {
     }
 }
 
-// A reading where its rule holds.
-fn reading_where(holds: bool, reading: Reading) -> Result<Reading, Refusal>
-    ensures { result ≡ outcome (unless holds 4) reading }
-{
-    if holds {
-        Ok(reading)
-    } else {
-        Err(Refusal::Reading)
-    }
-}
-
 // The percentage of some bits: those above +infinity's are a NaN's, or have the sign bit set.
 fn percentage(bits: u32) -> Result<Reading, Refusal>
     ensures { result ≡ outcome (decode 1 bits).refusal (decode 1 bits).reading }
@@ -96,9 +84,13 @@ impl TryFrom<Code> for Reading {
     fn try_from(code: Code) -> Result<Reading, Refusal> {
         let number = code.number;
         match code.kind {
-            0 => reading_where(number == 0, Reading::NotFitted),
+            0 => (number == 0)
+                .then_some(Reading::NotFitted)
+                .ok_or(Refusal::Reading),
             1 => percentage(number),
-            2 => reading_where(fault_ok(number), Reading::Fault(number)),
+            2 => fault_ok(number)
+                .then_some(Reading::Fault(number))
+                .ok_or(Refusal::Reading),
             3..=255 => Err(Refusal::Reading),
         }
     }

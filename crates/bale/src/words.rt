@@ -28,7 +28,8 @@ fn bytes_at<const N: usize>(bytes: &[u8], at: usize) -> [u8; N]
 }
 
 // The number of the two bytes at a place, past the end too.
-// Kept beside u32_at: `from_le_bytes` is a function of each width alone, and no trait of the library has it.
+// Kept beside u32_at: `from_le_bytes` is a function of each width alone, and no trait of std has it; `FromBytes` of num_traits has it, which
+// would make two lines one, and add a crate.
 pub fn u16_at(bytes: &[u8], at: usize) -> u16
     ensures { result ≡ u16_at bytes.now at }
 {
