@@ -3,20 +3,22 @@ use mathlib.Core.Path.{◌≡◌, refl, sym, ap, ◌∙◌}
 use mathlib.Core.Bool.{Bool, cond}
 use mathlib.Core.List.{List}
 use Prim.Native.Nat.{ℕ, zero, suc, ◌+◌, ◌-◌, ◌*◌, ◌/◌, ◌≤◌}
+use native.Mathlib.Decide.{ℕ_discrete}
 use native.Mathlib.Omega.{arith}
-use borrow.Author.Tests.{le-leb}
+use borrow.Author.Tests.{le-leb, eq-eqb, ne_eqb}
 use lib.Dec.{leb, eqb}
-use lib.ListN.{length}
+use lib.ListN.{length, drop, length-drop}
 use Rattle.mathematics.specs.Definitions.Tests.{all}
 use Rattle.pyramid.specs.declared.Settings.{Settings}
 use Rattle.pyramid.specs.Definitions.Settings.{bin, bins_ok}
 use Rattle.pyramid.specs.Definitions.Sizes.{nodes_at}
 use Rattle.pyramid.specs.Definitions.Refusals.{unless, index_ok, shape_refusal}
-use Rattle.pyramid.proofs.Refusals.{first_stop, first_skip, first-last}
+use Rattle.pyramid.proofs.Refusals.{first_stop, first_skip, first-last, first_none}
 use Rattle.mathematics.specs.Inner.Splices.{part}
 use Rattle.bale.specs.Definitions.Words.{indices_at}
 use Rattle.bale.specs.Definitions.Sections.{section_refusal}
 use Rattle.bale.specs.Definitions.Reader.{depth_in, settings_in, levels_place, readings_section_refusal, shape_section_refusal, bins_section_refusal, level_section_refusal, level_sections_refusal}
+use Rattle.bale.proofs.After.{sections_after}
 use Rattle.bale.proofs.WordLists.{indices_whole}
 use Rattle.bale.proofs.Sections.{section_whole}
 
@@ -53,40 +55,62 @@ module _ (bytes : List ℕ) where
 pub nodes_here : (s : Settings) (level : ℕ) {nodes : ℕ} → level ≤ s.depth → nodes ≡ cond (leb level s.depth) (nodes_at s level) 0 → nodes ≡ nodes_at s level
 nodes_here s level h e = e ∙ rw (le-leb _ _ h)
 
-module _ (bytes : List ℕ) (s : Settings) (level at : ℕ) {nodes : ℕ} (n : nodes ≡ nodes_at s level) where
-  pub level_stop : (section_refusal bytes at nodes 2 ≡ 0 → ⊥) → level_section_refusal bytes s level at ≡ section_refusal bytes at nodes 2
+module _ (bytes : List ℕ) (s : Settings) (level : ℕ) {nodes : ℕ} (n : nodes ≡ nodes_at s level) where
+  pub level_stop : (section_refusal bytes 0 nodes 2 ≡ 0 → ⊥) → level_section_refusal bytes s level 0 ≡ section_refusal bytes 0 nodes 2
   unfolding level_section_refusal
   level_stop = rw n (first_stop _ _)
 
   -- the indices are looked at in the part that holds them
   abbrev indices : List ℕ
-  indices = part (at + 2) (at + 2 + 2 * nodes) bytes
+  indices = part 2 (2 + 2 * nodes) bytes
 
-  pub level_left : section_refusal bytes at nodes 2 ≡ 0 → {test : Bool} → test ≡ all (index_ok (bin s level)) (indices_at indices 0 (length indices / 2))
-      → level_section_refusal bytes s level at ≡ unless test 11
+  pub level_left : section_refusal bytes 0 nodes 2 ≡ 0 → {test : Bool} → test ≡ all (index_ok (bin s level)) (indices_at indices 0 (length indices / 2))
+      → level_section_refusal bytes s level 0 ≡ unless test 11
   unfolding level_section_refusal
   level_left none {test} t =
-      let whole = indices_whole bytes (at + 2) nodes (omega (arith, (section_whole none).present)) in
-      let same : test ≡ all (index_ok (bin s level)) (indices_at bytes (at + 2) (nodes_at s level)) = t ∙ ap (all (index_ok (bin s level))) whole ∙ rw n in
-      let m : section_refusal bytes at (nodes_at s level) 2 ≡ 0 = rw n at none in
+      let whole = indices_whole bytes 2 nodes (omega (arith, (section_whole none).present)) in
+      let same : test ≡ all (index_ok (bin s level)) (indices_at bytes 2 (nodes_at s level)) = t ∙ ap (all (index_ok (bin s level))) whole ∙ rw n in
+      let m : section_refusal bytes 0 (nodes_at s level) 2 ≡ 0 = rw n at none in
       rw same (first_skip _ _ m ∙ first-last _)
 
 -- ---- the sections of a level and of those below it
 
-module _ (bytes : List ℕ) (s : Settings) (at : ℕ) where
-  pub levels_stop : (l : ℕ) → (level_section_refusal bytes s l at ≡ 0 → ⊥) → level_sections_refusal bytes s l at ≡ level_section_refusal bytes s l at
+module _ (bytes : List ℕ) (s : Settings) where
+  pub levels_stop : (l : ℕ) → (level_section_refusal bytes s l 0 ≡ 0 → ⊥) → level_sections_refusal bytes s l 0 ≡ level_section_refusal bytes s l 0
   unfolding level_sections_refusal
   levels_stop zero = first_stop _ _
   levels_stop (suc l) = first_stop _ _
 
-  pub levels_next : (l : ℕ) → level_section_refusal bytes s l at ≡ 0 → (l ≡ 0 → ⊥)
-      → level_sections_refusal bytes s (l - 1) (at + 2 + 2 * nodes_at s l) ≡ level_sections_refusal bytes s l at
+  next_at : (l : ℕ) → level_section_refusal bytes s l 0 ≡ 0 → (l ≡ 0 → ⊥)
+      → level_sections_refusal bytes s (l - 1) (2 + 2 * nodes_at s l) ≡ level_sections_refusal bytes s l 0
   unfolding level_sections_refusal
-  levels_next zero none some = absurd (some refl)
-  levels_next (suc l) none some = let p : suc l - 1 ≡ l = omega arith in rw p (sym (first_skip _ _ none ∙ first-last _))
+  next_at zero none some = absurd (some refl)
+  next_at (suc l) none some = let p : suc l - 1 ≡ l = omega arith in rw p (sym (first_skip _ _ none ∙ first-last _))
 
-  pub levels_end : (l : ℕ) → level_section_refusal bytes s l at ≡ 0 → l ≡ 0
-      → level_sections_refusal bytes s l at ≡ unless (eqb (length bytes) (at + 2 + 2 * nodes_at s l)) 12
+  end_at : (l : ℕ) → level_section_refusal bytes s l 0 ≡ 0 → l ≡ 0
+      → level_sections_refusal bytes s l 0 ≡ unless (eqb (length bytes) (2 + 2 * nodes_at s l)) 12
   unfolding level_sections_refusal
-  levels_end zero none z = first_skip _ _ none ∙ first-last _
-  levels_end (suc l) none z = absurd (omega arith)
+  end_at zero none z = first_skip _ _ none ∙ first-last _
+  end_at (suc l) none z = absurd (omega arith)
+
+  -- the level is whole, and these are the bytes after its section
+  module _ {below : List ℕ} (l : ℕ) (b : below ≡ drop (2 + 2 * nodes_at s l) bytes) (whole : level_section_refusal bytes s l 0 ≡ 0) where
+    pub levels_next : (l ≡ 0 → ⊥) → level_sections_refusal below s (l - 1) 0 ≡ level_sections_refusal bytes s l 0
+    levels_next some = rw (b, sections_after) (next_at l whole some)
+
+    present : 2 + 2 * nodes_at s l ≤ length bytes
+    unfolding level_section_refusal
+    present = (section_whole (first_none _ _ whole).0).present
+
+    -- the file ends there where no bytes are left
+    ends : eqb (length bytes) (2 + 2 * nodes_at s l) ≡ eqb (length below) 0
+    ends =
+        let long = ap length b ∙ length-drop (2 + 2 * nodes_at s l) bytes in
+        let room = present in
+        elim (ℕ_discrete (length below) 0) [
+          | yes e ↦ eq-eqb _ _ (omega (arith, e, long, room)) ∙ sym (eq-eqb _ _ e)
+          | no w ↦ ne_eqb _ _ (λ e. w (omega (arith, e, long))) ∙ sym (ne_eqb _ _ w)
+        ]
+
+    pub levels_end : l ≡ 0 → level_sections_refusal bytes s l 0 ≡ unless (eqb (length below) 0) 12
+    levels_end z = end_at l whole z ∙ ap (λ (t : Bool). unless t 12) ends

@@ -12,6 +12,7 @@ pub mod RoundTrips
 pub mod Archive
 pub mod CodedFiles
 pub mod Totality
+pub mod After
 pub mod SectionTests
 pub mod Checks
 pub mod Writings

@@ -25,6 +25,7 @@ use Rattle.bale.specs.Definitions.Files.{shape_section, bins_from, bins_section,
 use Rattle.bale.specs.Definitions.Reader.{levels_place, levels_from}
 use Rattle.bale.proofs.WordLaws.{put_splice}
 use Rattle.bale.proofs.WordLists.{indices_part, length-words, words_append, length-words_at, get_or-words_at}
+use Rattle.bale.proofs.After.{levels_after}
 use Rattle.bale.proofs.LevelTrips.{length_level, length_levels, length_indices}
 use Rattle.bale.proofs.FileLengths.{length-bins_from}
 
@@ -202,31 +203,31 @@ indices_filled bytes at levels =
 -- of a level and of those below it
 
 -- the part of a level buffer that they fill
-pub part_filled : (s : Settings) (bytes : List ℕ) (l at from : ℕ) (levels : List ℤ) {nodes : ℕ} {new : List ℤ} → nodes ≡ nodes_at s l → from + nodes ≤ length levels
-    → new ≡ indices_at (part (at + 2) (at + 2 + 2 * nodes) bytes) 0 (length (part from (from + nodes) levels))
-    → put_mid from (from + nodes - from) levels new ≡ splice from (indices_at bytes (at + 2) (nodes_at s l)) levels
-part_filled s bytes l at from levels {nodes} {new} n room e =
-    let all : new ≡ indices_at bytes (at + 2) nodes = (rw (part_long from nodes levels room) at e) ∙ indices_part bytes (at + 2) nodes in
-    let long : length new ≡ nodes = ap length all ∙ length_indices bytes (at + 2) nodes in
+pub part_filled : (s : Settings) (bytes : List ℕ) (l from : ℕ) (levels : List ℤ) {nodes : ℕ} {new : List ℤ} → nodes ≡ nodes_at s l → from + nodes ≤ length levels
+    → new ≡ indices_at (part 2 (2 + 2 * nodes) bytes) 0 (length (part from (from + nodes) levels))
+    → put_mid from (from + nodes - from) levels new ≡ splice from (indices_at bytes 2 (nodes_at s l)) levels
+part_filled s bytes l from levels {nodes} {new} n room e =
+    let all : new ≡ indices_at bytes 2 nodes = (rw (part_long from nodes levels room) at e) ∙ indices_part bytes 2 nodes in
+    let long : length new ≡ nodes = ap length all ∙ length_indices bytes 2 nodes in
     put_splice from (from + nodes - from) new levels (omega arith) ∙ rw (all, n)
 
-module _ (s : Settings) (bytes : List ℕ) (l at from : ℕ) (levels : List ℤ) {mid : List ℤ} (p : mid ≡ splice from (indices_at bytes (at + 2) (nodes_at s l)) levels) where
-  levels_zero : (l : ℕ) → l ≡ 0 → indices_at bytes (at + 2) (nodes_at s l) ≡ levels_from bytes s l at
+module _ (s : Settings) (bytes : List ℕ) (l from : ℕ) (levels : List ℤ) {mid : List ℤ} (p : mid ≡ splice from (indices_at bytes 2 (nodes_at s l)) levels) where
+  levels_zero : (l : ℕ) → l ≡ 0 → indices_at bytes 2 (nodes_at s l) ≡ levels_from bytes s l 0
   unfolding levels_from
   levels_zero zero z = refl
   levels_zero (suc l) z = absurd (omega arith)
 
-  levels_suc : (l : ℕ) → (l ≡ 0 → ⊥) → indices_at bytes (at + 2) (nodes_at s l) ++ levels_from bytes s (l - 1) (at + 2 + 2 * nodes_at s l) ≡ levels_from bytes s l at
+  levels_suc : (l : ℕ) → (l ≡ 0 → ⊥) → indices_at bytes 2 (nodes_at s l) ++ levels_from bytes s (l - 1) (2 + 2 * nodes_at s l) ≡ levels_from bytes s l 0
   unfolding levels_from
   levels_suc zero some = absurd (some refl)
   levels_suc (suc l) some = let e : suc l - 1 ≡ l = omega arith in rw e
 
-  pub read_last : l ≡ 0 → mid ≡ splice from (levels_from bytes s l at) levels
+  pub read_last : l ≡ 0 → mid ≡ splice from (levels_from bytes s l 0) levels
   read_last z = p ∙ ap (λ (xs : List ℤ). splice from xs levels) (levels_zero l z)
 
-  pub read_more : {next to : ℕ} → (l ≡ 0 → ⊥) → next ≡ at + 2 + 2 * nodes_at s l → to ≡ from + nodes_at s l → to ≤ length levels
-      → splice to (levels_from bytes s (l - 1) next) mid ≡ splice from (levels_from bytes s l at) levels
-  read_more some e f room =
-      let here = indices_at bytes (at + 2) (nodes_at s l) in
-      rw (e, f, ← levels_suc l some)
-      (piece_next from here (levels_from bytes s (l - 1) (at + 2 + 2 * nodes_at s l)) levels p refl (omega (arith, length_indices bytes (at + 2) (nodes_at s l))) (omega arith))
+  pub read_more : {below : List ℕ} {to : ℕ} → (l ≡ 0 → ⊥) → below ≡ drop (2 + 2 * nodes_at s l) bytes → to ≡ from + nodes_at s l → to ≤ length levels
+      → splice to (levels_from below s (l - 1) 0) mid ≡ splice from (levels_from bytes s l 0) levels
+  read_more some b f room =
+      let here = indices_at bytes 2 (nodes_at s l) in
+      rw (b, levels_after, f, ← levels_suc l some)
+      (piece_next from here (levels_from bytes s (l - 1) (2 + 2 * nodes_at s l)) levels p refl (omega (arith, length_indices bytes 2 (nodes_at s l))) (omega arith))

@@ -8,10 +8,9 @@ use native.Mathlib.Nat.{mod-eq_of_lt, lt_of_not-le, le_of_suc-le-suc}
 use native.Mathlib.Omega.{arith}
 use borrow.Author.Tests.{lt-ltb, le-ltb, eqb-true}
 use lib.Dec.{T, ltb, eqb}
-use Rattle.std.specs.Prelude.{Result, Ok, Err}
+use Rattle.std.specs.Prelude.{Ok, Err}
 use Rattle.std.specs.Bool.{then_some}
 use Rattle.std.specs.Option.{ok_or}
-use Rattle.refusals.specs.declared.Refusal.{Refusal}
 use Rattle.refusals.specs.declared.Refusal.TheVariants.{Reading as Unlawful}
 use Rattle.refusals.specs.Definitions.Outcomes.{outcome}
 use Rattle.refusals.proofs.Outcomes.{refuses, accepts}

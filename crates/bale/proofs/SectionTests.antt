@@ -1,13 +1,12 @@
 -- The tests of a section's count and items, one by one, and of its indices. Assumes nothing.
 use mathlib.Core.Path.{◌≡◌, sym, ◌∙◌}
 use mathlib.Core.List.{List}
-use Prim.Native.Nat.{ℕ, ◌+◌, ◌-◌, ◌*◌, ◌≤◌, ◌<◌}
-use native.Mathlib.Nat.{add-zero}
+use Prim.Native.Nat.{ℕ, ◌+◌, ◌*◌, ◌≤◌, ◌<◌}
 use native.Mathlib.Omega.{arith}
 use borrow.Author.Tests.{le-leb, lt-leb, eq-eqb, ne_eqb}
 use lib.IntN.{ℤ}
-use lib.ListN.{length, get_or, take, drop, get_or-map, length-drop}
-use Rattle.std.proofs.lemmas.List.{get_or-take, get_or-drop}
+use lib.ListN.{length, get_or, take, drop, get_or-map}
+use Rattle.std.proofs.lemmas.List.{get_or-take}
 use Rattle.mathematics.specs.Definitions.Tests.{all}
 use Rattle.pyramid.specs.declared.IndexRange.{IndexRange}
 use Rattle.pyramid.specs.Definitions.Refusals.{index_ok}
@@ -22,42 +21,39 @@ use Rattle.bale.proofs.LevelTrips.{length_indices}
 
 -- ---- a section: its count is absent, or wrong, or its items are not all there
 
--- the two bytes of a count and the bytes after them, of what stands from a place on
+-- the two bytes of a count and the bytes after them
 abbrev pub Cut : List ℕ → List ℕ → List ℕ → Type 0
-Cut rest found items = (found ≡ take 2 rest) × (items ≡ drop 2 rest) × (length items + 2 ≡ length rest)
+Cut bytes found items = (found ≡ take 2 bytes) × (items ≡ drop 2 bytes) × (length items + 2 ≡ length bytes)
 
-module _ (bytes : List ℕ) (at count size : ℕ) {rest : List ℕ} (r : rest ≡ drop at bytes) where
-  long : length rest ≡ length bytes - at
-  long = rw r (length-drop at bytes)
-
-  pub count_absent : length rest < 2 → 9 ≡ section_refusal bytes at count size
+module _ (bytes : List ℕ) (count size : ℕ) where
+  pub count_absent : length bytes < 2 → 9 ≡ section_refusal bytes 0 count size
   unfolding section_refusal
-  count_absent h = answers_fails _ (lt-leb _ _ (omega (arith, h, long)))
+  count_absent h = answers_fails _ (lt-leb _ _ h)
 
-  module _ {found items : List ℕ} (cut : Cut rest found items) where
-    pub there : at + 2 ≤ length bytes
-    there = omega (arith, cut.2, long)
+  module _ {found items : List ℕ} (cut : Cut bytes found items) where
+    pub there : 2 ≤ length bytes
+    there = omega (arith, cut.2)
 
     module _ {n : ℕ} (e : n ≡ get_or found 0 0 + get_or found 1 0 * 256) where
-      pub count_read : n ≡ u16_at bytes at
+      pub count_read : n ≡ u16_at bytes 0
       unfolding u16_at
       count_read =
-          let low : get_or found 0 0 ≡ get_or bytes (at + 0) 0 = rw (cut.0, r) (get_or-take 2 (drop at bytes) 0 0 (omega arith) ∙ get_or-drop at bytes 0 0) in
-          let high : get_or found 1 0 ≡ get_or bytes (at + 1) 0 = rw (cut.0, r) (get_or-take 2 (drop at bytes) 1 0 (omega arith) ∙ get_or-drop at bytes 1 0) in
-          omega (arith, e, rw add-zero at low, high)
+          let low : get_or found 0 0 ≡ get_or bytes 0 0 = rw cut.0 (get_or-take 2 bytes 0 0 (omega arith)) in
+          let high : get_or found 1 0 ≡ get_or bytes 1 0 = rw cut.0 (get_or-take 2 bytes 1 0 (omega arith)) in
+          omega (arith, e, low, high)
 
-      pub count_wrong : (n ≡ count → ⊥) → 10 ≡ section_refusal bytes at count size
+      pub count_wrong : (n ≡ count → ⊥) → 10 ≡ section_refusal bytes 0 count size
       unfolding section_refusal
       count_wrong wrong = answers_fails _ (ne_eqb _ _ (λ w. wrong (count_read ∙ w))) ∙ answers_passes 9 _ (le-leb _ _ there)
 
       module _ (counted : n ≡ count) where
-        pub items_absent : length items < size * count → 9 ≡ section_refusal bytes at count size
+        pub items_absent : length items < size * count → 9 ≡ section_refusal bytes 0 count size
         unfolding section_refusal
         items_absent short =
-            answers_fails _ (lt-leb _ _ (omega (arith, short, cut.2, long))) ∙ answers_passes 10 _ (eq-eqb _ _ (sym count_read ∙ counted)) ∙ answers_passes 9 _ (le-leb _ _ there)
+            answers_fails _ (lt-leb _ _ (omega (arith, short, cut.2))) ∙ answers_passes 10 _ (eq-eqb _ _ (sym count_read ∙ counted)) ∙ answers_passes 9 _ (le-leb _ _ there)
 
-        pub items_there : size * count ≤ length items → section_refusal bytes at count size ≡ 0
-        items_there h = section_accepted (record { present = omega (arith, h, cut.2, long); counted = sym count_read ∙ counted })
+        pub items_there : size * count ≤ length items → section_refusal bytes 0 count size ≡ 0
+        items_there h = section_accepted (record { present = omega (arith, h, cut.2); counted = sym count_read ∙ counted })
 
 -- ---- the indices of a level
 

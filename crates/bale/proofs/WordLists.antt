@@ -85,7 +85,7 @@ module _ {F : Type 0} {g : Mut F (ℕ × Unit {0}) ℕ} (f : F) (h : ℕ → ℕ
   made_by {n} made =
       ext_get_or 0 _ _ (made.long ∙ sym (length-tabulate n h)) (λ k l. made_from 0 n made.each k (omega arith) (omega (arith, made.long)) ∙ sym (get_or-tabulate n h 0 k (omega (arith, made.long))))
 
--- ---- a number of bytes taken one by one, and numbers after a place
+-- ---- a number of bytes taken one by one
 
 module _ (bytes : List ℕ) (at : ℕ) where
   pub number16 : {two : List ℕ} → two ≡ tabulate 2 (λ i. get_or bytes (at + i) 0) → get_or two 0 0 + get_or two 1 0 * 256 ≡ u16_at bytes at
@@ -96,17 +96,6 @@ module _ (bytes : List ℕ) (at : ℕ) where
       → get_or four 0 0 + get_or four 1 0 * 256 + get_or four 2 0 * 65536 + get_or four 3 0 * 16777216 ≡ u32_at bytes at
   unfolding u32_at tabulate
   number32 e = rw (e, add-zero) (omega arith)
-
-  pub first_after : get_or (drop at bytes) 0 0 ≡ get_or bytes at 0
-  first_after = get_or-drop at bytes 0 0 ∙ rw add-zero
-
-  pub number32_after : u32_at (drop at bytes) 1 ≡ u32_at bytes (at + 1)
-  unfolding u32_at
-  number32_after =
-      let e : at + 2 ≡ at + 1 + 1 = omega arith in
-      let f : at + 3 ≡ at + 1 + 2 = omega arith in
-      let g : at + 4 ≡ at + 1 + 3 = omega arith in
-      rw (get_or-drop at bytes 1 0, get_or-drop at bytes 2 0, get_or-drop at bytes 3 0, get_or-drop at bytes 4 0, e, f, g)
 
 -- ---- a list of them
 

@@ -1,5 +1,5 @@
 // Which rule is broken first by the sections of a file (document 01, "Who can cause which refusal").
-ghost use Rattle.std.specs.Prelude.{◌≡◌, ◌+◌, ◌*◌, ◌/◌, ◌≤◌, length};
+ghost use Rattle.std.specs.Prelude.{◌≡◌, ◌+◌, ◌*◌, ◌/◌, ◌≤◌, length, drop};
 ghost use Rattle.refusals.specs.Definitions.Outcomes.{outcome};
 ghost use Rattle.mathematics.specs.Definitions.Tests.{all};
 ghost use Rattle.pyramid.specs.Definitions.Sizes.{nodes_at};
@@ -14,11 +14,10 @@ use pyramid::IndexRange;
 use refusals::Refusal;
 
 // A section's count, and whether its items are all there.
-// Kept: a file and a place in it, past its end too (places.rt).
-pub fn check_section(file: &[u8], at: usize, count: u16, size: u8) -> Result<(), Refusal>
-    ensures { result ≡ outcome (section_refusal file.now at count size) tt }
+pub fn check_section(section: &[u8], count: u16, size: u8) -> Result<(), Refusal>
+    ensures { result ≡ outcome (section_refusal section.now 0 count size) tt }
 {
-    let Some((found, items)) = words::rest(file, at).split_first_chunk() else {
+    let Some((found, items)) = section.split_first_chunk() else {
         return Err(Refusal::FileEnds);
     };
     if u16::from_le_bytes(*found) != count {
@@ -43,11 +42,14 @@ fn indices_ok(indices: &[u8], bin: u16) -> bool
 }
 
 impl ShapedFile<'_> {
+    ghost use Rattle.bale.specs.Inner.Files.{bytes_left};
+
     // The section of the bins, and whether these are lawful.
     pub fn check_bins(&self) -> Result<(), Refusal>
         ensures { result ≡ outcome (bins_section_refusal self.now.bytes.now) tt }
     {
-        check_section(self.bytes, places::BINS, self.shape.settings.depth + 1, 2)?;
+        let section = words::rest(self.bytes, places::BINS);
+        check_section(section, self.shape.settings.depth + 1, 2)?;
         self.shape.lawful()?;
         Ok(())
     }
@@ -58,30 +60,32 @@ impl ShapedFile<'_> {
             (note_in self.now.bytes.now self.now.shape.settings.depth) }
     {
         let depth = self.shape.settings.depth;
-        check_section(self.bytes, places::readings(depth), 2, 5)?;
-        let before_drier = finding::reading_at(self.bytes, places::drier(depth))?;
-        let at_press = finding::reading_at(self.bytes, places::press(depth))?;
+        let section = words::rest(self.bytes, places::readings(depth));
+        check_section(section, 2, 5)?;
+        let drier = words::rest(self.bytes, places::drier(depth));
+        let press = words::rest(self.bytes, places::press(depth));
+        let before_drier = finding::reading_in(drier)?;
+        let at_press = finding::reading_in(press)?;
         Ok(Note {
             before_drier,
             at_press,
         })
     }
 
-    // Where a level's section ends, or the first rule that it breaks.
-    fn check_level(&self, level: u16, at: usize) -> Result<usize, Refusal>
+    // The bytes after a level's section, which comes first, or the first rule that it breaks.
+    fn check_level<'a>(&self, level: u16, left: &'a [u8]) -> Result<&'a [u8], Refusal>
         requires { level ≤ self.now.shape.settings.depth }
-        ensures { result ≡ outcome (level_section_refusal self.now.bytes.now self.now.shape.settings level at)
-            (end_of at (nodes_at self.now.shape.settings level) 2) }
+        ensures { bytes_left result ≡ outcome (level_section_refusal left.now self.now.shape.settings level 0)
+            (drop (end_of 0 (nodes_at self.now.shape.settings level) 2) left.now) }
     {
         let nodes = self.shape.level_nodes(level);
-        check_section(self.bytes, at, nodes, 2)?;
+        check_section(left, nodes, 2)?;
         let bins = self.shape.settings.bins;
-        let end = at + 2 + 2 * nodes as usize;
-        let indices = &self.bytes[at + 2..end];
-        if !indices_ok(indices, bins[level as usize]) {
+        let (section, below) = left.split_at(2 + 2 * nodes as usize);
+        if !indices_ok(&section[2..], bins[level as usize]) {
             return Err(Refusal::Index);
         }
-        Ok(end)
+        Ok(below)
     }
 
     // The sections of all levels, and whether the file ends there.
@@ -90,11 +94,11 @@ impl ShapedFile<'_> {
             (levels_place self.now.shape.settings.depth)) tt }
     {
         let depth = self.shape.settings.depth;
-        let mut at = places::levels(depth);
+        let mut left = words::rest(self.bytes, places::levels(depth));
         for level in (0..=depth).rev() {
-            at = self.check_level(level, at)?;
+            left = self.check_level(level, left)?;
         }
-        if self.bytes.len() != at {
+        if !left.is_empty() {
             return Err(Refusal::BytesAfter);
         }
         Ok(())

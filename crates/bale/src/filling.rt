@@ -4,8 +4,8 @@ ghost use Rattle.bale.specs.Definitions.Words.{indices_at};
 ghost use Rattle.bale.specs.Definitions.Reader.{levels_in};
 ghost use Rattle.bale.specs.Definitions.Calls.{read_refusal};
 
-use crate::places;
 use crate::shaped::ShapedFile;
+use crate::{places, words};
 
 // The indices of a level.
 fn fill_indices(indices: &[u8], levels: &mut [i16])
@@ -20,19 +20,20 @@ fn fill_indices(indices: &[u8], levels: &mut [i16])
 
 impl ShapedFile<'_> {
     // The indices of all levels, level N first.
+    // Kept: `from`, beside the file that is cut. With a `&mut` slice that each turn cuts by split_at_mut and hands on to the next, no proof
+    // knows after the loop what the whole buffer holds (tried).
     pub fn fill(&self, levels: &mut [i16])
         requires { read_refusal self.now.bytes.now (length levels.old) ≡ 0 }
         ensures { levels.new ≡ levels_in self.now.bytes.now }
     {
         let depth = self.shape.settings.depth;
-        let mut at = places::levels(depth);
+        let mut left = words::rest(self.bytes, places::levels(depth));
         let mut from = 0;
         for level in (0..=depth).rev() {
             let nodes = self.shape.level_nodes(level) as usize;
-            let end = at + 2 + 2 * nodes;
-            let indices = &self.bytes[at + 2..end];
-            fill_indices(indices, &mut levels[from..from + nodes]);
-            at = end;
+            let (section, below) = left.split_at(2 + 2 * nodes);
+            fill_indices(&section[2..], &mut levels[from..from + nodes]);
+            left = below;
             from += nodes;
         }
     }

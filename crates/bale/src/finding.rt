@@ -1,5 +1,6 @@
-// What a file holds at which place: settings and readings, past the end too (document 01, "Bale file").
-// Kept: a file and a place in it, since a reader looks past the file's end too (places.rt).
+// What a file says of its settings, and a reading (document 01, "Bale file").
+// Kept: `settings_in` and `slot_in` read a file at places, past its end too: the shape's rules come before it is known that the bins are
+// all there, and a bin that is not counts as 0.
 ghost use Rattle.std.specs.Prelude.{◌≡◌};
 ghost use Rattle.refusals.specs.Definitions.Outcomes.{outcome};
 ghost use Rattle.mathematics.specs.Definitions.Tables.{tabulate};
@@ -38,10 +39,10 @@ pub fn settings_in(file: &[u8]) -> Settings
     }
 }
 
-pub fn reading_at(file: &[u8], at: usize) -> Result<Reading, Refusal>
-    ensures { result ≡ outcome (probe_at file.now at).refusal (probe_at file.now at).reading }
+// The reading whose five bytes come first.
+pub fn reading_in(code: &[u8]) -> Result<Reading, Refusal>
+    ensures { result ≡ outcome (probe_at code.now 0).refusal (probe_at code.now 0).reading }
 {
-    let code = words::rest(file, at);
     Reading::try_from(Code {
         kind: words::byte_at(code, 0),
         number: words::u32_at(code, 1),

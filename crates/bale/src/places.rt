@@ -1,5 +1,6 @@
 // Where the sections of a file stand (document 01, "Bale file"): each starts with its count.
-// Kept: the rules name what a file holds by its places, past its end too, where a cursor has nothing to read.
+// Kept: places, and no cursor. The settings are read past the file's end too, where a cursor has nothing to read (finding.rt), and each
+// section after them stands at a place that the depth alone gives, so that no method hands on what is left of the file to the next.
 ghost use Rattle.std.specs.Prelude.{◌≡◌};
 ghost use Rattle.bale.specs.Definitions.Reader.{readings_place, drier_place, press_place, levels_place};
 

@@ -78,6 +78,7 @@ fn put_level(indices: &[i16], section: &mut [u8])
 }
 
 // The sections of all levels, level N first.
+// Kept: `at`, beside the levels that are cut, for the reason that stands at `ShapedFile::fill`.
 fn put_levels(shape: Shape, levels: &[i16], sections: &mut [u8])
     requires levels_length { length levels.now ≡ total shape.settings }
     requires long { levels_place shape.settings.depth + length sections.old ≡ file_length shape.settings }

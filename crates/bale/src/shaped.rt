@@ -22,7 +22,7 @@ impl<'a> ShapedFile<'a> {
     pub fn new(bytes: &'a [u8]) -> Result<ShapedFile<'a>, Refusal>
         ensures { file_bytes result ≡ outcome (shape_section_refusal bytes.now) bytes.now }
     {
-        checking::check_section(bytes, 0, 4, 2)?;
+        checking::check_section(bytes, 4, 2)?;
         let shape = Shape::new(finding::settings_in(bytes))?;
         Ok(ShapedFile { bytes, shape })
     }

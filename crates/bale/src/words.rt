@@ -1,5 +1,5 @@
 // Numbers in a file, low byte first (document 01, "Bale file").
-// Kept: a file and a place in it, since a reader looks past the file's end too (places.rt).
+// Kept: a file and a place in it, for the settings, which are read past the file's end too (finding.rt).
 ghost use Rattle.std.specs.Prelude.{◌≡◌, ◌+◌, get_or, drop};
 ghost use Rattle.mathematics.specs.Definitions.Tables.{tabulate};
 ghost use Rattle.bale.specs.Definitions.Words.{u16_at, u32_at};

@@ -6,4 +6,4 @@ use Rattle.bale.proofs.shaped.ShapedFile.check_levels.Given as goal
 abbrev pub invariant-loop-level : goal.invariant-loop-level
 invariant-loop-level l =
     level_sections_refusal l.self.bytes.now l.self.shape.settings l.depth (levels_place l.depth)
-    ≡ level_sections_refusal l.self.bytes.now l.self.shape.settings l.level l.at
+    ≡ level_sections_refusal l.left l.self.shape.settings l.level 0

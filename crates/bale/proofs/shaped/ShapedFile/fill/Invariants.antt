@@ -10,9 +10,8 @@ use Rattle.bale.proofs.shaped.ShapedFile.fill.Given as goal
 abbrev pub invariant-loop-level : goal.invariant-loop-level
 invariant-loop-level l =
     let s = l.fn.self.shape.settings in
-    let bytes = l.fn.self.bytes.now in
     record {
       room : l.from + nodes_to s l.level ≡ length l.fn.levels;
-      whole : l.at + 2 * (l.level + 1) + 2 * nodes_to s l.level ≡ length bytes;
-      left : splice l.from (levels_from bytes s l.level l.at) l.levels ≡ splice 0 (levels_from bytes s s.depth (levels_place s.depth)) l.fn.levels;
+      whole : 2 * (l.level + 1) + 2 * nodes_to s l.level ≡ length l.left;
+      read : splice l.from (levels_from l.left s l.level 0) l.levels ≡ splice 0 (levels_from l.fn.self.bytes.now s s.depth (levels_place s.depth)) l.fn.levels;
     }
