@@ -8,10 +8,10 @@ use native.Mathlib.Omega.{arith}
 use borrow.Rule.Slice.PartMut.{put_mid}
 use lib.Dec.{ltb}
 use lib.IntN.{ℤ, pos, negsuc, ◌-ℤ◌}
-use lib.ListN.{length, drop, set, drop_of_length-le}
+use lib.ListN.{length}
 use lib.Seq.{drop-drop}
 use mir.Facts.{to_z-of_z, of_z-to_z, Fits-of_z}
-use mir.Syntax.{w16, w32}
+use mir.Syntax.{w16}
 use mir.Val.{SFits, of_z, to_z, sel}
 use Rattle.std.specs.Int.{to_le_bytes}
 use Rattle.mathematics.specs.Inner.Splices.{splice}
@@ -77,15 +77,6 @@ put_splice at k xs l e = rw (drop-drop k at l, e)
 pub put16 : (at n : ℕ) (l : List ℕ) {k : ℕ} {xs : List ℕ} → xs ≡ to_le_bytes w16 n → k ≡ 2 → put_mid at k l xs ≡ splice at (le16 n) l
 unfolding le16
 put16 at n l {k} p e = rw p (put_splice at k (le16 n) l e)
-
--- a kind and a number in the five bytes that are theirs
-pub code_whole : (kind number : ℕ) (l : List ℕ) {xs : List ℕ} → length l ≡ 5 → xs ≡ to_le_bytes w32 number
-    → put_mid 1 (length (set l 0 kind) - 1) (set l 0 kind) xs ≡ kind ∷ le32 number
-unfolding le32
-code_whole kind number [] long p = absurd (omega arith)
-code_whole kind number (x ∷ rest) long p =
-    let d : drop (length (kind ∷ rest) - 1) rest ≡ [] = drop_of_length-le rest {i = length (kind ∷ rest) - 1} (omega arith) in
-    rw (p, d) refl
 
 -- ---- two's complement
 

@@ -30,6 +30,8 @@ pub fn check_section(section: &[u8], count: u16, size: u8) -> Result<(), Refusal
 }
 
 // Every index of a level times its bin lies within 4,096 of 0: the lowest and the highest do.
+// Kept beside pyramid's `values_within`, which folds indices that are given: these are made of two bytes each where they lie in the file,
+// since no buffer is lent for them. The two share `widened` and `range_ok`.
 fn indices_ok(indices: &[u8], bin: u16) -> bool
     ensures { result ≡ all (index_ok bin) (indices_at indices.now 0 (length indices.now / 2)) }
 {

@@ -1,5 +1,10 @@
 // The sections of a file, each in the part of the writer's buffer that is its own (document 01, "Bale file").
-// Kept: each function asks that its part is as long as what it writes there; how long that is differs from section to section.
+// Kept: each function asks that its part is as long as what it writes there. Of the bins and the levels the settings say how long that is,
+// so that no type does. The shape's 10 bytes and the readings' 12 could be `&mut [u8; N]`, but `put_file` has slices of them, cut at their
+// places: `try_into` and `split_first_chunk_mut` answer a Result and an Option, each with a case that never comes, for a clause of one line.
+// As arrays that are answered and then copied they would be written otherwise than the two sections beside them, in no fewer lines.
+// Kept: numbers are written at `2 * i`. After a loop over `chunks_exact_mut` no proof knows the bytes (tried in `put_indices`), and
+// `as_chunks_mut` says nothing of what the slice ends as.
 ghost use Rattle.std.specs.Prelude.{◌≡◌, ◌++◌, ◌∷◌, map, ◌+◌, ◌*◌, ◌<◌, T, length, drop};
 ghost use Rattle.pyramid.specs.Definitions.Sizes.{total};
 ghost use Rattle.bale.specs.Definitions.Words.{le32, words, index_word};
@@ -37,12 +42,12 @@ fn put_bins(shape: Shape, section: &mut [u8])
 }
 
 // A kind and a number.
-fn put_code(code: Code, bytes: &mut [u8])
-    requires { length bytes.old ≡ 5 }
-    ensures { bytes.new ≡ code.kind ∷ le32 code.number }
+#[tactic(auto, unfolding(crate::specs::Definitions::Words::le32))]
+fn code_bytes(code: Code) -> [u8; 5]
+    ensures { result ≡ code.kind ∷ le32 code.number }
 {
-    bytes[0] = code.kind;
-    bytes[1..].copy_from_slice(&code.number.to_le_bytes());
+    let [a, b, c, d] = code.number.to_le_bytes();
+    [code.kind, a, b, c, d]
 }
 
 fn put_readings(note: Note, section: &mut [u8])
@@ -53,8 +58,8 @@ fn put_readings(note: Note, section: &mut [u8])
     let (count, codes) = section.split_at_mut(2);
     let (before_drier, at_press) = codes.split_at_mut(5);
     count.copy_from_slice(&2u16.to_le_bytes());
-    put_code(note.before_drier.code(), before_drier);
-    put_code(note.at_press.code(), at_press);
+    before_drier.copy_from_slice(&code_bytes(note.before_drier.code()));
+    at_press.copy_from_slice(&code_bytes(note.at_press.code()));
 }
 
 // The numbers of indices.

@@ -17,6 +17,8 @@ pub fn file_length(shape: Shape) -> usize
 }
 
 // The shape of what the writer accepts, or the first rule that is broken.
+// Kept: settings and a note, and no `Bale` of both: the settings become a shape here, and `put_file` takes the shape and the note, so that a
+// Bale would be made for this call alone, and taken apart in it.
 pub fn check(s: Settings, note: Note, levels: &[i16], room: usize) -> Result<Shape, Refusal>
     ensures { shape_settings result ≡ outcome (write_refusal s note levels.now room) s }
 {

@@ -17,5 +17,5 @@ code-requires-2 c = (both (reading_ok c.args.note.before_drier) (reading_ok c.ar
 pub returns : goal.returns
 returns c =
     readings_whole c.args.note (c.copy_from_slice.ensures.after ∙ c.to_le_bytes.ensures ∙ low_bytes16 2)
-    (c.put_code.ensures ∙ rw c.code.ensures)
-    (c.put_code-2.ensures ∙ rw c.code-2.ensures)
+    (c.copy_from_slice-2.ensures.after ∙ c.code_bytes.ensures ∙ rw c.code.ensures)
+    (c.copy_from_slice-3.ensures.after ∙ c.code_bytes-2.ensures ∙ rw c.code-2.ensures)
