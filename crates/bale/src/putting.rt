@@ -63,6 +63,7 @@ fn put_readings(note: Note, section: &mut [u8])
 }
 
 // The numbers of indices.
+// Kept apart from put_level: a loop over bytes that the same function split off is not vectorized, and the writer is then four times slower.
 fn put_indices(indices: &[i16], bytes: &mut [u8])
     requires { length bytes.old ≡ 2 * length indices.now }
     ensures { bytes.new ≡ words (map index_word indices.now) }

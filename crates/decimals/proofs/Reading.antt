@@ -1,19 +1,17 @@
 -- A number read digit by digit: each turn of the loop takes the next digit, until there is none or there are enough. Assumes nothing.
-use mathlib.Core.Path.{◌≡◌, refl, sym, ap, ◌∙◌}
+use mathlib.Core.Path.{◌≡◌, refl, ap, ◌∙◌}
 use mathlib.Core.Logic.{◌⊎◌, inl, inr}
 use mathlib.Core.Bool.{true, false, cond}
 use mathlib.Core.List.{List, [], ◌∷◌}
 use Prim.Native.Nat.{ℕ, zero, suc, ◌+◌, ◌-◌, ◌*◌, ◌^◌, ◌≤◌, ◌<◌, min}
-use native.Mathlib.Nat.{sub-zero, pow-zero, pow-suc, pow-le-pow_right}
+use native.Mathlib.Nat.{pow-zero, pow-suc, pow-le-pow_right}
 use native.Mathlib.Numerals.{add-one}
 use native.Mathlib.Omega.{arith}
 use Rattle.std.proofs.lemmas.Bool.Decides.{eqb_tells}
 use lib.ListN.{length, get_or, take, drop, length-drop, drop_of_length-le}
 use lib.Seq.{drop-cons}
-use Rattle.std.proofs.Common.{Bor, Option, Some, None}
-use Rattle.std.proofs.lemmas.List.{take_all, length-take}
-use Rattle.std.specs.List.{slice_range}
-use Rattle.std.specs.Option.{MatchOption, unwrap_or}
+use Rattle.std.proofs.Common.{Option, Some, None}
+use Rattle.std.proofs.lemmas.List.{length-take}
 use Rattle.mathematics.proofs.Tests.{cond_elim}
 use Rattle.decimals.specs.declared.Number.{Number}
 use Rattle.decimals.specs.Definitions.Digits.{value}
@@ -49,15 +47,6 @@ pub record Reading (text : List ℕ) (count : ℕ) (n : Number) : Type 0 where
   pub counted : length (leading_digits (length text) text) ≡ count + length (leading_digits (length text - count) (drop count text))
   pub valued : value (leading_digits (length text) text)
       ≡ n.value * 10 ^ length (leading_digits (length text - count) (drop count text)) + value (leading_digits (length text - count) (drop count text))
-
-pub reading_start : (text : List ℕ) → Reading text 0 (record { value = 0; digits = 0 })
-reading_start text =
-    record {
-      digits = refl;
-      small = rw (pow-zero 10) (omega arith);
-      counted = rw (sub-zero (length text)) (omega arith);
-      valued = rw (sub-zero (length text)) (omega arith);
-    }
 
 module _ {text : List ℕ} {count : ℕ} {n : Number} (r : Reading text count n) where
   -- ten times the value, and the digit
@@ -106,21 +95,6 @@ module _ {text : List ℕ} {count : ℕ} {n : Number} (r : Reading text count n)
 pub record Front (text : List ℕ) (at most : ℕ) (front : List ℕ) : Type 0 where
   pub is : front ≡ take (min most 9) (drop at text)
 
-pub front_of : (text : List ℕ) (at most limit : ℕ) (rest : Bor (List ℕ)) (o : Option (Bor (List ℕ))) → limit ≡ min most 9 → rest.now ≡ take (length text - at) (drop at text)
-    → MatchOption o ((limit < 0) ⊎ (length rest.now < limit)) (λ x. (0 ≤ limit) × (limit ≤ length rest.now) × (x.now ≡ slice_range rest.now 0 limit) × (length x.now + 0 ≡ limit))
-    → Front text at most (unwrap_or o rest).now
-front_of text at most limit rest o e r m = go o m
-  where
-    all : rest.now ≡ drop at text
-    all = r ∙ take_all (length text - at) (drop at text) (omega (arith, length-drop at text))
-
-    go : (o : Option (Bor (List ℕ))) → MatchOption o ((limit < 0) ⊎ (length rest.now < limit)) (λ x. (0 ≤ limit) × (limit ≤ length rest.now) × (x.now ≡ slice_range rest.now 0 limit) × (length x.now + 0 ≡ limit))
-        → Front text at most (unwrap_or o rest).now
-    go None short =
-        let le : length rest.now ≤ limit = elim short [ inl h ↦ omega arith | inr h ↦ omega arith ] in
-        record { is = all ∙ sym (take_all (min most 9) (drop at text) (rw (← all, ← e) le)) }
-    go (Some x) m = record { is = m.2 ∙ rw (sub-zero limit, e, all) }
-
 module _ {text front : List ℕ} {at most : ℕ} (f : Front text at most front) where
   found_in : leading_digits (length front) front ≡ leading_digits (min most 9) (drop at text)
   found_in = rw f.is (leading_cut (min most 9) (drop at text))
@@ -137,10 +111,6 @@ module _ {text front : List ℕ} {at most : ℕ} (f : Front text at most front) 
 pub found_none : (n : Number) → n.digits ≡ 0 → None ≡ number_found n
 unfolding number_found
 found_none n e = rw e
-
-pub found_some : (n : Number) → (n.digits ≡ 0 → ⊥) → Some n ≡ number_found n
-unfolding number_found
-found_some n e = grind arith
 
 -- what was answered tells which it is
 pub found_by : (n : Number) {o : Option Number} → o ≡ number_found n → ((o ≡ None) × (n.digits ≡ 0)) ⊎ ((o ≡ Some n) × (n.digits ≡ 0 → ⊥))

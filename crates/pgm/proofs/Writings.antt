@@ -64,10 +64,6 @@ module _ (columns rows : ℕ) where
   unfolding pgm_length
   pgm_length_lem = ap (λ (k : ℕ). k + rows * columns) header_length
 
-  pub pgm_long : (picture : List ℕ) → length picture ≡ rows * columns → length (pgm_of columns rows picture) ≡ pgm_length columns rows
-  unfolding pgm_of pgm_length
-  pgm_long picture e = length-append (header_of columns rows) picture ∙ ap (λ (k : ℕ). length (header_of columns rows) + k) e
-
 -- ---- parts
 
 -- a number that was put in its part, and its white space byte

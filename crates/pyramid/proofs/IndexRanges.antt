@@ -88,9 +88,9 @@ module _ (n : ℕ) where
   unfolding index_ok
   zero_ok = le-leb (0 * n) limit (omega arith)
 
-  pub ranged_start : (xs : List ℤ) → Ranged n xs 0 (record { low = pos 0; high = pos 0 })
+  pub ranged_start : (xs : List ℤ) (range : IndexRange) → (range.low ≡ pos 0) × (range.high ≡ pos 0) → Ranged n xs 0 range
   unfolding range_ok
-  ranged_start xs = record { bound = omega arith; order = ≤ℤ_refl (pos 0); rest = rw zero_ok }
+  ranged_start xs range (low, high) = record { bound = omega arith; order = rw (low, high) (≤ℤ_refl (pos 0)); rest = rw (low, high, zero_ok) }
 
   -- a turn, with the index and the range that it stored
   module _ {xs : List ℤ} {i : ℕ} {range next : IndexRange} {x : ℤ} (r : Ranged n xs i range) (h : i < length xs) where

@@ -1,8 +1,9 @@
 // REDUCE (document 01, "Pyramid steps"): down the columns into a row of sums, then along that row, with one rounding at the end.
-// Kept: `Small` in clauses, here and in expanding.rt and copying.rt: the bound differs from step to step (4,096; 524,288; 8,388,608), and
-// what is small is a slice that was just written.
-// Kept: five values (places) one by one, in expanding.rt three: they come from five rows or columns that the edge reflects, so an array
-// would be filled from five places at each node, to be taken apart again by the weights.
+// Kept: `Small` in clauses, here and in expanding.rt and copying.rt: what is small is a slice that the caller has just filled through a
+// `&mut`, to 4,096, 524,288 or 8,388,608; a type for it would be made between the filling and the reading, once for each row, by the very
+// fact that the clause asks for.
+// Kept: five values (rows, places) one by one, in expanding.rt and taps.rt three too: each has a weight of its own, and the outer two of them
+// share theirs; an array would name them by number.
 ghost use Rattle.std.specs.Prelude.{◌≡◌, ◌+◌, ◌-◌, ◌*◌, ◌/◌, ◌%◌, ◌≤◌, ◌<◌, pos, ◌+ℤ◌, ◌*ℤ◌, length, get_or};
 ghost use Rattle.mathematics.specs.Definitions.Sums.{sum};
 ghost use Rattle.mathematics.specs.Definitions.Tables.{tabulate};
@@ -17,12 +18,12 @@ use crate::rasters::Raster;
 use crate::taps::Weights;
 
 // The sums of the five rows that row j of the next level is made of, column by column.
-fn column_sums(level: Raster, j: usize, weights: Weights, sums: &mut [i32])
+fn column_sums(level: Raster, j: usize, sums: &mut [i32])
     requires j_bound { (3 ≤ level.rows) × (2 * j < level.rows) × (length sums.old ≡ level.columns) }
     requires small { Small 4096 level.values.now }
     ensures { sums.new ≡
         tabulate level.entry.columns
-        (column_sum (weight weights.kernel) (λ t. reflect (level.entry.rows - 1) (2 * j + t))
+        (column_sum (weight level.entry.weights.kernel) (λ t. reflect (level.entry.rows - 1) (2 * j + t))
         (as_level level.entry.columns level.entry.values.now)) }
 {
     let a = level.row(2 * j);
@@ -31,7 +32,7 @@ fn column_sums(level: Raster, j: usize, weights: Weights, sums: &mut [i32])
     let d = level.row(2 * j + 3);
     let e = level.row(2 * j + 4);
     for (x, sum) in sums.iter_mut().enumerate() {
-        *sum = weights.five(a[x], b[x], c[x], d[x], e[x]);
+        *sum = level.weights.five(a[x], b[x], c[x], d[x], e[x]);
     }
 }
 
@@ -78,18 +79,18 @@ fn reduce_along(sums: &[i32], weights: Weights, row: &mut [i32])
 }
 
 // The next level above a level.
-pub fn reduce_level(level: Raster, weights: Weights, above: &mut [i32])
+pub fn reduce_level(level: Raster, above: &mut [i32])
     requires { Reducible level.columns level.rows level.values.now (length above.old) }
     ensures { let e = level.entry in above.new ≡
         raster ((e.columns - 1) / 2 + 1) ((e.rows - 1) / 2 + 1)
-        (reduce weights.kernel (e.columns - 1) (e.rows - 1) (as_level e.columns e.values.now)) }
+        (reduce e.weights.kernel (e.columns - 1) (e.rows - 1) (as_level e.columns e.values.now)) }
 {
     let n = (level.columns - 1) / 2 + 1;
     let m = (level.rows - 1) / 2 + 1;
     let mut sums: [i32; 129] = [0; 129];
     let sums = &mut sums[..level.columns];
     for j in 0..m {
-        column_sums(level, j, weights, sums);
-        reduce_along(sums, weights, &mut above[j * n..j * n + n]);
+        column_sums(level, j, sums);
+        reduce_along(sums, level.weights, &mut above[j * n..j * n + n]);
     }
 }

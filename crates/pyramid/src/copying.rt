@@ -60,11 +60,12 @@ pub fn value_row(indices: &[i16], predicted: &[i32], bin: u16, values: &mut [i32
     }
 }
 
+// Kept beside bale's `indices_ok`, which makes each index of two bytes where it lies in the file: `widened` and `range_ok` are shared.
 // Every index of a level times its bin lies within 4,096 of 0: the lowest and the highest do.
 pub fn values_within(indices: &[i16], bin: u16) -> bool
     ensures { result ≡ all (index_ok bin) indices.now }
 {
-    let mut range = IndexRange { low: 0, high: 0 };
+    let mut range = IndexRange::default();
     for &index in indices {
         range = ranging::widened(range, index);
     }

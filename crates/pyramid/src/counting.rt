@@ -13,6 +13,7 @@ fn last_at(side: u16, level: u16) -> usize
     usize::from(last.unwrap_or(0))
 }
 
+// Kept: the bounds in what these promise, and a level's in levels.rt, so that sums and products of them are seen to fit without a lemma.
 impl Shape {
     // Kept, and `rows_at`: the two names of the papers, each one call of `last_at`.
     pub(crate) fn columns_at(self, level: u16) -> usize

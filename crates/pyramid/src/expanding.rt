@@ -1,6 +1,4 @@
 // EXPAND (document 01, "Pyramid steps"): down the columns into a row of sums, then along that row, with one rounding at the end.
-// Kept: a level, a row's number and the weights, here and in averaging.rt: a struct of the three would be made anew for each row, since the
-// row is what changes from call to call.
 ghost use Rattle.std.specs.Prelude.{◌≡◌, ◌+◌, ◌-◌, ◌*◌, ◌/◌, ◌≤◌, ◌<◌, pos, ◌+ℤ◌, ◌*ℤ◌, length, get_or};
 ghost use Rattle.mathematics.specs.Definitions.Sums.{sum};
 ghost use Rattle.mathematics.specs.Definitions.Tables.{tabulate};
@@ -27,21 +25,21 @@ fn weigh_rows(a: &[i32], b: &[i32], c: &[i32], weights: Triple, sums: &mut [i32]
 }
 
 // The sums of the rows that row j of the level below is expanded from, column by column.
-fn expand_sums(level: Raster, j: usize, weights: Weights, sums: &mut [i32])
+fn expand_sums(level: Raster, j: usize, sums: &mut [i32])
     requires j_bound { (j ≤ 2 * (level.rows - 1)) × (length sums.old ≡ level.columns) }
     requires small { Small 524288 level.values.now }
     ensures { sums.new ≡
         tabulate level.entry.columns
-        (column_sum (even_weight weights.kernel j) (λ t. reflect (level.entry.rows - 1) (halved j t))
+        (column_sum (even_weight level.entry.weights.kernel j) (λ t. reflect (level.entry.rows - 1) (halved j t))
         (as_level level.entry.columns level.entry.values.now)) }
 {
     let half = j / 2;
     let here = level.row(half + 2);
     let next = level.row(half + 3);
     if j % 2 == 0 {
-        weigh_rows(level.row(half + 1), here, next, weights.even(), sums);
+        weigh_rows(level.row(half + 1), here, next, level.weights.even(), sums);
     } else {
-        weigh_rows(here, here, next, weights.odd(), sums);
+        weigh_rows(here, here, next, level.weights.odd(), sums);
     }
 }
 
@@ -78,17 +76,17 @@ fn expand_along(sums: &[i32], weights: Weights, row: &mut [i32])
 }
 
 // Row j of the level below a level.
-pub fn expand_row(level: Raster, j: usize, weights: Weights, row: &mut [i32])
+pub fn expand_row(level: Raster, j: usize, row: &mut [i32])
     requires j_bound { (j ≤ 2 * (level.rows - 1)) × (length row.old ≡ 2 * (level.columns - 1) + 1)
         × (level.columns ≤ 65) }
     requires small { Small 524288 level.values.now }
     ensures { row.new ≡
         tabulate (2 * (level.entry.columns - 1) + 1)
-        (λ i. expand weights.kernel (level.entry.columns - 1) (level.entry.rows - 1)
+        (λ i. expand level.entry.weights.kernel (level.entry.columns - 1) (level.entry.rows - 1)
         (as_level level.entry.columns level.entry.values.now) i j) }
 {
     let mut sums: [i32; 65] = [0; 65];
     let sums = &mut sums[..level.columns];
-    expand_sums(level, j, weights, sums);
-    expand_along(sums, weights, row);
+    expand_sums(level, j, sums);
+    expand_along(sums, level.weights, row);
 }

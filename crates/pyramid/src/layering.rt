@@ -13,6 +13,8 @@ ghost use Rattle.pyramid.specs.Inner.Layers.{predicted, index_at, value_at, Leve
 use crate::levels::Level;
 use crate::{LawfulSettings, averaging, copying, expanding};
 
+// Kept: that the buffers hold all levels, in a clause of each function that goes through them and in the words of specs/Inner: a type for a
+// lent buffer and its settings would be made for one call in coding and in rebuilding, and taken apart there again.
 // The averages of all levels, from the picture at its place: each level is reduced to the one above it, which ends where it starts.
 pub fn average_levels(lawful: LawfulSettings, work: &mut [i32])
     requires long { total lawful ≤ length work.old }
@@ -23,7 +25,7 @@ pub fn average_levels(lawful: LawfulSettings, work: &mut [i32])
         let level = lawful.level(l);
         let (before, here) = work.split_at_mut(level.start());
         let start = level.above().start();
-        averaging::reduce_level(level.raster(here), level.weights(), &mut before[start..]);
+        averaging::reduce_level(level.raster(here), &mut before[start..]);
     }
 }
 
@@ -40,12 +42,13 @@ fn predict_row(level: Level, j: usize, before: &[i32], row: &mut [i32])
     } else {
         let above = level.above();
         let start = above.start();
-        expanding::expand_row(above.raster(&before[start..]), j, level.weights(), row);
+        expanding::expand_row(above.raster(&before[start..]), j, row);
     }
 }
 
-// Kept beside `value_level`: this one reads the work buffer that the other writes, and their rows are of two types; a closure for the row
-// would need its clause over what it borrows.
+// Kept beside `value_level`: they share the frame of a loop and no step, for this one reads the work buffer and writes indices, that one
+// reads indices and writes the work buffer. One function for both would take a closure for the row, and its contract would have to speak of
+// what that closure has done after each call.
 // The indices of a level, from the averages.
 fn index_level(level: Level, work: &[i32], levels: &mut [i16])
     requires { IndexLevel level.settings level.number work.now levels.old }

@@ -37,7 +37,8 @@ impl LawfulSettings {
 }
 
 impl Level {
-    // Kept beside that of all settings: each makes the shape of the settings in its own struct.
+    // Kept beside that of all settings: a level holds bare settings, since a struct that holds one with a model is not copied where it is
+    // passed on.
     fn shape(self) -> Shape
         ensures { result.settings ≡ self.settings }
     {
@@ -91,6 +92,7 @@ impl Level {
         requires { nodes_at self.settings self.number ≤ length values.now }
         ensures size { (result.columns ≡ columns_at self.settings self.number) × (result.rows ≡ rows_at self.settings self.number) }
         ensures values { result.values.now ≡ take (nodes_at self.settings self.number) values.now }
+        ensures weights { result.weights.kernel ≡ self.settings.kernel }
     {
         let columns = self.columns();
         let rows = self.rows();
@@ -98,6 +100,7 @@ impl Level {
             values: &values[..rows * columns],
             columns,
             rows,
+            weights: Weights::new(self.settings.kernel),
         }
     }
 
@@ -107,12 +110,5 @@ impl Level {
     {
         let bins = self.settings.bins;
         bins[usize::from(self.number)]
-    }
-
-    // The weights that it is reduced with, and expanded to.
-    pub fn weights(self) -> Weights
-        ensures { result.kernel ≡ self.settings.kernel }
-    {
-        Weights::new(self.settings.kernel)
     }
 }

@@ -38,6 +38,7 @@ pub use ranging::range_ok;
 // A range with one index more.
 pub use ranging::widened;
 
+// Kept: seven slots, of which the depth says how many count: the settings as the documents have them, and C hands them over (C interface).
 // Columns, rows, depth, kernel and the bin of each level in its slot (document 01, "Settings").
 #[derive(Clone, Copy)]
 pub struct Settings {
@@ -49,14 +50,14 @@ pub struct Settings {
 }
 
 // The columns and rows of a picture or of a level.
-#[derive(Clone, Copy)]
+#[derive(Clone, Copy, PartialEq, Eq)]
 pub struct Dimensions {
     pub columns: u16,
     pub rows: u16,
 }
 
 // The lowest and the highest of some indices and 0.
-#[derive(Clone, Copy)]
+#[derive(Clone, Copy, Default, PartialEq, Eq)]
 pub struct IndexRange {
     pub low: i16,
     pub high: i16,

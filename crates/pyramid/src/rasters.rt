@@ -1,15 +1,17 @@
-// A level in a buffer, row after row, and its rows as REDUCE and EXPAND read them (document 01, "Pyramid steps").
+// A level in a buffer, row after row, as REDUCE and EXPAND read it (document 01, "Pyramid steps").
 ghost use Rattle.std.specs.Prelude.{◌≡◌, ◌+◌, ◌*◌, ◌≤◌, length};
 ghost use Rattle.pyramid.specs.Inner.Rows.{row_at};
 
 use crate::taps;
+use crate::taps::Weights;
 
-// The values of a level of so many columns and rows.
+// The values of a level of so many columns and rows, and the weights that its rows are summed with.
 #[derive(Clone, Copy)]
 pub struct Raster<'a> {
     pub values: &'a [i32],
     pub columns: usize,
     pub rows: usize,
+    pub weights: Weights,
     ghost wide: { (2 ≤ columns) × (columns ≤ 129) },
     ghost high: { (2 ≤ rows) × (rows ≤ 129) },
     ghost filled: { length values.now ≡ rows * columns },

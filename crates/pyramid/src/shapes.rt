@@ -12,7 +12,8 @@ use refusals::Refusal;
 use std::marker::Model;
 
 // Settings whose shape is lawful.
-// Kept: a ghost field and no model, since a file holds its shape beside its bytes, and `?` passes on no such pair with a model in it.
+// Kept: a ghost field and no model, since contracts read the fields; a model was tried, and `?` then passed on no file, which holds a borrow
+// beside its shape.
 #[derive(Clone, Copy)]
 pub struct Shape {
     pub settings: Settings,
@@ -49,6 +50,7 @@ impl Shape {
         })
     }
 
+    // Kept, and `level_nodes`: 0 above the depth and no `None`, which is what these public functions have promised.
     // The columns and rows of a level; 0 by 0 for a level above the depth.
     pub fn level_size(self, level: u16) -> Dimensions
         ensures { result ≡ size_of (level_size_answer self.settings level) }

@@ -28,7 +28,7 @@ loop-x-preserved c =
     let level = a.level in
     filling_next c.loop-x.invariant (omega arith) (omega arith)
     (held_is (search rules) ∙ c.five.ensures
-    ∙ column_formed a.weights.kernel level.values.now level.columns level.rows c.loop-x.x (λ t. 2 * a.j + t)
+    ∙ column_formed a.level.weights.kernel level.values.now level.columns level.rows c.loop-x.x (λ t. 2 * a.j + t)
     (rw add-zero c.row-a.ensures.is) c.row-b.ensures.is c.row-c.ensures.is c.row-d.ensures.is c.row-e.ensures.is c.requires.small (omega arith))
     (omega arith)
 

@@ -25,11 +25,11 @@ module _ (n : In-loop-j) where
   room = omega (arith, n.requires.above)
 
   -- once the row of sums is made
-  made_small : {made : List ℤ} → made ≡ tabulate n.args.level.columns (column_sum (weight n.args.weights.kernel) (λ t. reflect (n.args.level.rows - 1) (2 * n.loop-j.j + t)) read) → Small 8388608 made
+  made_small : {made : List ℤ} → made ≡ tabulate n.args.level.columns (column_sum (weight n.args.level.weights.kernel) (λ t. reflect (n.args.level.rows - 1) (2 * n.loop-j.j + t)) read) → Small 8388608 made
   made_small is =
-      sums_small n.args.weights.kernel n.args.level.columns n.args.level.rows n.loop-j.j read is 8388608
-      (λ x h. within_more (omega arith) (column_within (weight n.args.weights.kernel) (λ t. reflect (n.args.level.rows - 1) (2 * n.loop-j.j + t)) n.args.level.columns x 24 4096
-      n.args.level.values.now (weight-size n.args.weights.lawful) n.requires.small))
+      sums_small n.args.level.weights.kernel n.args.level.columns n.args.level.rows n.loop-j.j read is 8388608
+      (λ x h. within_more (omega arith) (column_within (weight n.args.level.weights.kernel) (λ t. reflect (n.args.level.rows - 1) (2 * n.loop-j.j + t)) n.args.level.columns x 24 4096
+      n.args.level.values.now (weight-size n.args.level.weights.lawful) n.requires.small))
 
 pub loop-j-init : goal.loop-j-init
 loop-j-init c = rendering_start _ _ _ _ _
@@ -41,7 +41,7 @@ pub loop-j-preserved : goal.loop-j-preserved
 loop-j-preserved c =
     let n = (goal.at.loop-j-preserved c).In-loop-j in
     let a = n.args in
-    let row = c.reduce_along.ensures ∙ row_reduced a.weights.kernel a.level.columns a.level.rows n.loop-j.j (read n) c.column_sums.ensures n.requires.wide in
+    let row = c.reduce_along.ensures ∙ row_reduced a.level.weights.kernel a.level.columns a.level.rows n.loop-j.j (read n) c.column_sums.ensures n.requires.wide in
     let columns = (a.level.columns - 1) / 2 + 1 in
     let at = n.loop-j.j * columns in
     let long : length c.reduce_along.new.row ≡ (a.level.columns - 1) / 2 + 1 = ap length row ∙ length-tabulate _ _ in

@@ -8,4 +8,4 @@ use Rattle.pyramid.proofs.averaging.reduce_level.Given as goal
 abbrev pub invariant-loop-j : goal.invariant-loop-j
 invariant-loop-j l =
     Rendering 0 ((l.level.columns - 1) / 2 + 1) ((l.level.rows - 1) / 2 + 1)
-    (reduce l.weights.kernel (l.level.columns - 1) (l.level.rows - 1) (as_level l.level.columns l.level.values.now)) l.initial.above l.above l.j
+    (reduce l.level.weights.kernel (l.level.columns - 1) (l.level.rows - 1) (as_level l.level.columns l.level.values.now)) l.initial.above l.above l.j

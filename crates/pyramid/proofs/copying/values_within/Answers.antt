@@ -4,7 +4,7 @@ use Rattle.pyramid.proofs.IndexRanges.{ranged_start, ranged_next, ranged_end}
 use Rattle.pyramid.proofs.copying.values_within.Goals as goal
 
 pub loop-index-init : goal.loop-index-init
-loop-index-init c = ranged_start _ _
+loop-index-init c = ranged_start _ _ _ c.default-range.ensures
 
 pub loop-index-preserved : goal.loop-index-preserved
 loop-index-preserved c = ranged_next _ c.loop-index.invariant c.loop-index-test.true (pos 0) (search rules) c.widened-range.ensures

@@ -85,7 +85,7 @@ loop-l-preserved c law' long =
     let m = (goal.at.loop-l-preserved c).After-start-start in
     let r = (goal.at.loop-l-preserved c).After-raster in
     turn_next c.args.lawful law' c.args.work.now long (c.loop-l.invariant law' long) (below m) (mid_is m) (up_is m) (front m) (back m)
-    (across r) (along r) (held r) (c.weights.ensures ∙ rw c.level-level.ensures.0) c.reduce_level.ensures
+    (across r) (along r) (held r) (c.raster.ensures.weights ∙ rw c.level-level.ensures.0) c.reduce_level.ensures
 
 pub returns : goal.returns
 returns c =

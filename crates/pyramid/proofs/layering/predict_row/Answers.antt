@@ -74,5 +74,5 @@ returns-else-level c =
     let n = (goal.at.returns-else-level c).After-raster in
     let a = c.args in
     c.expand_row.ensures
-    ∙ rw (c.weights.ensures)
+    ∙ rw (c.raster.ensures.weights, c.above-above.ensures.0)
     (below_row a.level.settings a.level.number a.j a.before.now a.level.lawful (below (r n)) c.requires.lengths.1 (held n) (along n) (across n) c.requires.lengths.0)
