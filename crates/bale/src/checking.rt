@@ -35,7 +35,7 @@ pub fn check_section(section: &[u8], count: u16, size: u8) -> Result<(), Refusal
 fn indices_ok(indices: &[u8], bin: u16) -> bool
     ensures { result ≡ all (index_ok bin) (indices_at indices.now 0 (length indices.now / 2)) }
 {
-    let mut range = IndexRange { low: 0, high: 0 };
+    let mut range = IndexRange::default();
     let (words, _) = indices.as_chunks::<2>();
     for word in words {
         range = pyramid::widened(range, i16::from_le_bytes(*word));
