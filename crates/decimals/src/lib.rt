@@ -13,17 +13,14 @@ pub struct Number {
 }
 
 // How many digits a number has.
-// Kept, and `put_digits`: std's Display of a number promises no bytes, and the writer of PGM files promises `decimal`; it has no heap.
+#[tactic(auto, using(crate::proofs::Counting::count_power, crate::proofs::Counting::count_one))]
 pub fn digit_count(n: u32) -> usize
     ensures { result ≡ length (decimal n) }
 {
-    if n < 10 {
-        return 1;
+    match n.checked_ilog10() {
+        Some(power) => power as usize + 1,
+        None => 1,
     }
-    if n < 100 {
-        return 2;
-    }
-    digit_count(n / 100) + 2
 }
 
 // A number's digits in a buffer, the last one first, before a place.
@@ -38,7 +35,8 @@ fn put_digits(n: u32, buffer: &mut [u8], end: usize)
     }
 }
 
-// Kept: a buffer and a place in it, so that a number that has no room is told here and not by each caller.
+// Kept: a buffer and a place in it, though the product's callers ask for place 0. This is a public function, whose promise of every other place,
+// past the end too, has to stand, and is tested (test_pgm/src/numbers.rt).
 // Writes a number in a buffer from a place on, and answers how many digits it has; `None` where it has no room there.
 pub fn put_decimal(n: u32, buffer: &mut [u8], at: usize) -> Option<usize>
     ensures value { result ≡ cond (has_room at (decimal n) buffer.old) (Some (length (decimal n))) None }
@@ -55,7 +53,8 @@ pub fn put_decimal(n: u32, buffer: &mut [u8], at: usize) -> Option<usize>
 }
 
 // The number of at most so many digits, and never more than nine, that begins at a place; `None` where no digit stands there.
-// Kept: a text and a place in it. Past the end no number stands, and that is told here and not by each caller.
+// Kept: a text and a place in it, though the product's caller asks inside the text alone. This is a public function, whose promise of a place
+// past the end has to stand, and is tested (test_pgm/src/texts.rt).
 pub fn number_at(text: &[u8], at: usize, most: usize) -> Option<Number>
     ensures { result ≡ number_found (number_at text.now at most) }
 {
