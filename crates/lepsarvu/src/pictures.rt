@@ -14,7 +14,7 @@ pub fn lepsarvu_pgm_size(columns: u16, rows: u16, size: &mut usize) -> u16
     ensures value { result ≡ (size_answer columns rows).refusal }
     ensures size_after { size.new ≡ leaves result (size_answer columns rows).size size.old }
 {
-    give(pgm::pgm_size(columns, rows), size)
+    give(pgm::pgm_size(Dimensions { columns, rows }), size)
 }
 
 pub fn lepsarvu_write_pgm(
@@ -31,7 +31,10 @@ pub fn lepsarvu_write_pgm(
         leaves result (write_pgm columns rows picture.now file.old).answer.size
         size.old }
 {
-    give(pgm::write_pgm(columns, rows, picture, file), size)
+    give(
+        pgm::write_pgm(Dimensions { columns, rows }, picture, file),
+        size,
+    )
 }
 
 // Width and height, into what was lent for them.
