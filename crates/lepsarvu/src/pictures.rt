@@ -44,14 +44,8 @@ fn give_picture_size(answer: Result<Dimensions, Refusal>, columns: &mut u16, row
     ensures columns_after { columns.new ≡ given answer (λ size. size.columns) columns.old }
     ensures rows_after { rows.new ≡ given answer (λ size. size.rows) rows.old }
 {
-    match answer {
-        Ok(size) => {
-            *columns = size.columns;
-            *rows = size.rows;
-            0
-        }
-        Err(refusal) => u16::from(refusal),
-    }
+    give(answer.map(|size| size.columns), columns);
+    give(answer.map(|size| size.rows), rows)
 }
 
 pub fn lepsarvu_read_pgm(file: &[u8], picture: &mut [u8], columns: &mut u16, rows: &mut u16) -> u16
