@@ -19,11 +19,10 @@ pub fn read_pgm(file: &[u8], picture: &mut [u8]) -> Result<Dimensions, Refusal>
     ensures picture_after { picture.new ≡ (read_pgm file.now picture.old).picture }
 {
     let found = checking::accepted(file)?;
-    let pixels = &file[found.pixels..];
-    if picture.len() != pixels.len() {
+    if picture.len() != found.pixels.len() {
         return Err(Refusal::PictureLength);
     }
-    picture.copy_from_slice(pixels);
+    picture.copy_from_slice(found.pixels);
     Ok(found.size)
 }
 
