@@ -1,5 +1,5 @@
 // PGM pictures for programs in C or Rust: numbers and slices alone. include/lepsarvu.h declares each function.
-// Kept: numbers for refusals, and the settings and what is handed out one by one: the C interface.
+// Kept: numbers for refusals, and the size and what is handed out one by one, in the exported functions: the C interface.
 ghost use Rattle.std.specs.Prelude.{◌≡◌};
 ghost use Rattle.refusals.specs.Definitions.Outcomes.{answer_number};
 ghost use Rattle.pyramid.specs.Definitions.Calls.{leaves};

@@ -18,6 +18,7 @@ pub struct Picture<'a> {
 }
 
 // The size of a picture. Refused: 1, which is the pyramid's.
+// Kept: columns and rows one by one, since a header's numbers have 32 bits. They are `Dimensions`, which have 16, only where this function accepts them.
 fn lawful_size(columns: u32, rows: u32) -> Result<Dimensions, Refusal>
     ensures { result ≡ outcome (unless (size_ok columns rows) 1) (record { columns = columns; rows = rows }) }
 {
