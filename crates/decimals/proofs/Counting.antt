@@ -2,9 +2,8 @@
 use mathlib.Core.Path.{◌≡◌, refl, sym, ap, ◌∙◌}
 use mathlib.Core.Bool.{cond}
 use mathlib.Core.List.{List, [], ◌∷◌, ◌++◌, map-append}
-use Prim.Native.Nat.{ℕ, zero, suc, ◌+◌, ◌-◌, ◌*◌, ◌/◌, ◌%◌, ◌^◌, ◌≤◌, ◌<◌}
-use native.Mathlib.Nat.{add-zero, div-add-mod', mod-eq_of_lt, pow-succ'}
-use native.Mathlib.Decide.{dec_lt}
+use Prim.Native.Nat.{ℕ, zero, suc, ◌+◌, ◌-◌, ◌/◌, ◌%◌, ◌≤◌, ◌<◌}
+use native.Mathlib.Nat.{add-zero, div-add-mod', mod-lt, mod-eq_of_lt, div-div-eq-div-mul}
 use native.Mathlib.Numerals.{add-one}
 use native.Mathlib.Omega.{arith}
 use borrow.Author.Tests.{le-leb, lt-leb}
@@ -17,8 +16,8 @@ use Rattle.mathematics.proofs.Tests.{cond_elim}
 use Rattle.mathematics.proofs.Splices.{splice_nil, splice-set, splice_prepend}
 use Rattle.decimals.specs.Definitions.Digits.{digits_up_to, digits}
 use Rattle.decimals.specs.Definitions.Text.{decimal, text_at, has_room}
-use Rattle.decimals.proofs.Digits.{digits_one, digits_more, digits_some, digits-length}
-use Rattle.decimals.proofs.Text.{length-decimal, decimal_most}
+use Rattle.decimals.proofs.Digits.{digits_one, digits_more, digits_some}
+use Rattle.decimals.proofs.Text.{length-decimal}
 
 pub decimal_one : (n : ℕ) → n < 10 → decimal n ≡ (48 + n) ∷ []
 unfolding decimal
@@ -36,13 +35,15 @@ count_one n h = rw (decimal_one n h)
 pub count_more : (n : ℕ) → 10 ≤ n → length (decimal (n / 10)) + 1 ≡ length (decimal n)
 count_more n h = rw (decimal-more n h) (sym (length-append (decimal (n / 10)) ((48 + n % 10) ∷ [])))
 
--- one digit more than the greatest power of 10 that the number holds
-pub count_power : (n k : ℕ) → 10 ^ k ≤ n → n < 10 * 10 ^ k → k + 1 ≡ length (decimal n)
-count_power n k low high = cases (dec_lt k (length (digits n)))
-  where
-    cases : Dec (k < length (digits n)) → k + 1 ≡ length (decimal n)
-    cases (yes more) = omega (arith, decimal_most n (suc k) (omega arith) (omega (arith, pow-succ' 10 k)), length-decimal n)
-    cases (no few) = absurd (omega (arith, digits-length n k (omega arith)))
+pub count_two : (n : ℕ) → 10 ≤ n → n < 100 → 2 ≡ length (decimal n)
+count_two n h k = ap (λ (c : ℕ). c + 1) (count_one (n / 10) (omega (arith, div-add-mod' n 10))) ∙ count_more n h
+
+pub count_hundreds : (n : ℕ) → 100 ≤ n → length (decimal (n / 100)) + 2 ≡ length (decimal n)
+count_hundreds n h =
+    let tens : length (decimal (n / 10 / 10)) + 1 ≡ length (decimal (n / 10)) = count_more (n / 10) (omega (arith, div-add-mod' n 10, mod-lt n {m = 10} (omega arith))) in
+    let all = count_more n (omega arith) in
+    let e : n / 10 / 10 ≡ n / 100 = div-div-eq-div-mul n 10 10 in
+    omega (arith, rw e at tens)
 
 pub count_some : (n : ℕ) → 1 ≤ length (decimal n)
 count_some n = rw (length-decimal n) (digits_some n)
@@ -57,6 +58,9 @@ up_to_most (suc most) n =
 pub count_most : (n : ℕ) → length (decimal n) ≤ n + 1
 unfolding decimal digits
 count_most n = rw (length-map (digits n) (λ d. 48 + d), add-one) (up_to_most (suc n) n)
+
+pub hundreds_less : (n : ℕ) → 100 ≤ n → n / 100 < n
+hundreds_less n h = omega (arith, div-add-mod' n 100)
 
 pub tens_less : (n : ℕ) → 10 ≤ n → n / 10 < n
 tens_less n h = omega (arith, div-add-mod' n 10)

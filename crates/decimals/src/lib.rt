@@ -13,13 +13,16 @@ pub struct Number {
 }
 
 // How many digits a number has.
-#[tactic(auto, using(crate::proofs::Counting::count_power, crate::proofs::Counting::count_one))]
+// Kept: counted by hundreds. std's `checked_ilog10` was tried, and proves with less; `write_pgm`, which asks six times, then takes 1.55 times as long as
+// plain C at 17 by 17, instead of 1.33 (bench/run), and misses 1.5.
+#[tactic(auto, using(crate::proofs::Counting::count_one, crate::proofs::Counting::count_two, crate::proofs::Counting::count_hundreds, crate::proofs::Counting::count_most, crate::proofs::Counting::hundreds_less))]
 pub fn digit_count(n: u32) -> usize
     ensures { result ≡ length (decimal n) }
 {
-    match n.checked_ilog10() {
-        Some(power) => power as usize + 1,
-        None => 1,
+    match n {
+        0..=9 => 1,
+        10..=99 => 2,
+        _ => digit_count(n / 100) + 2,
     }
 }
 

@@ -1,0 +1,5 @@
+-- What falls with each call of `decimals::digit_count`.
+use Rattle.decimals.proofs.+digit_count.Given as goal
+
+abbrev pub decreases-digit_count : goal.decreases-digit_count
+decreases-digit_count l = l.n
