@@ -13,20 +13,23 @@ pub struct Number {
 }
 
 // How many digits a number has.
-// Kept, and `put_digits`: std's Display of a number promises no bytes, and the writer of PGM files promises `decimal`; it has no heap.
+// Kept: counted by hundreds. std's `checked_ilog10` was tried, and proves with less; `write_pgm`, which asks six times, then takes 1.55 times as long as
+// plain C at 17 by 17, instead of 1.33 (bench/run), and misses 1.5.
+#[tactic(auto, using(crate::proofs::Counting::count_one, crate::proofs::Counting::count_two, crate::proofs::Counting::count_hundreds, crate::proofs::Counting::count_most, crate::proofs::Counting::hundreds_less))]
 pub fn digit_count(n: u32) -> usize
     ensures { result ≡ length (decimal n) }
 {
-    if n < 10 {
-        return 1;
+    match n {
+        0..=9 => 1,
+        10..=99 => 2,
+        _ => digit_count(n / 100) + 2,
     }
-    if n < 100 {
-        return 2;
-    }
-    digit_count(n / 100) + 2
 }
 
 // A number's digits in a buffer, the last one first, before a place.
+// Kept: by hand. Of a format std says the bytes only where they go to a `String`, which needs a heap. `write_digits` of the kit's itoa needs none and
+// says as much, of std's `decimal`: it would be the only crate in the product that is neither std nor its own, and need a lemma that both `decimal` are
+// one, for these four lines.
 fn put_digits(n: u32, buffer: &mut [u8], end: usize)
     requires { (length (decimal n) ≤ end) × (end ≤ length buffer.old) }
     ensures { buffer.new ≡
@@ -38,7 +41,8 @@ fn put_digits(n: u32, buffer: &mut [u8], end: usize)
     }
 }
 
-// Kept: a buffer and a place in it, so that a number that has no room is told here and not by each caller.
+// Kept: a buffer and a place in it, though the product's callers ask for place 0. This is a public function, whose promise of every other place,
+// past the end too, has to stand, and is tested (test_pgm/src/numbers.rt).
 // Writes a number in a buffer from a place on, and answers how many digits it has; `None` where it has no room there.
 pub fn put_decimal(n: u32, buffer: &mut [u8], at: usize) -> Option<usize>
     ensures value { result ≡ cond (has_room at (decimal n) buffer.old) (Some (length (decimal n))) None }
@@ -67,7 +71,10 @@ fn number_of(value: u32, digits: usize) -> Option<Number>
 }
 
 // The number of at most so many digits, and never more than nine, that begins at a place; `None` where no digit stands there.
-// Kept: a text and a place in it. Past the end no number stands, and that is told here and not by each caller.
+// Kept: a text and a place in it, though the product's caller asks inside the text alone. This is a public function, whose promise of a place
+// past the end has to stand, and is tested (test_pgm/src/texts.rt).
+// Kept: the value by a loop. `from_utf8` and `parse::<u32>` were tried, and timed in this function alone: 16 ns for 12. A header has three numbers, and
+// with 12 ns more `check_pgm` misses 1.5 times plain C, of which it takes 1.34 at 17 by 17 (docs/PERFORMANCE.md).
 pub fn number_at(text: &[u8], at: usize, most: usize) -> Option<Number>
     ensures { result ≡ number_found (number_at text.now at most) }
 {

@@ -1,5 +1,5 @@
 // The pyramid and the bale file for programs in C or Rust: numbers and slices alone. include/lepsarvu.h declares each function.
-// Kept: numbers for refusals, and the settings and what is handed out one by one: the C interface.
+// Kept: numbers for refusals, and the settings and what is handed out one by one, in the exported functions: the C interface.
 #![tactic(auto)]
 
 ghost use Rattle.std.specs.Prelude.{◌≡◌, length};
@@ -218,6 +218,9 @@ fn code_of(reading: Reading) -> Code
 }
 
 // What a reader answers, into what it was lent.
+// Kept: a match of its own beside `give`. One `give` of a `map` for each part was tried, as for a picture's size: of these closures, which answer arrays,
+// the check concludes nothing (their `post` is the unit), and four goals stay open. With clauses at each closure, or a function with a contract for
+// each part, it is longer than the match.
 #[tactic(auto, unfolding(crate::specs::Inner::Given::given, crate::specs::Definitions::Exports::kinds_of, crate::specs::Definitions::Exports::numbers_of, refusals::specs::Definitions::Outcomes::answer_number))]
 fn give_bale(
     answer: Result<Bale, Refusal>,

@@ -1,5 +1,5 @@
 // PGM pictures for programs in C or Rust: numbers and slices alone. include/lepsarvu.h declares each function.
-// Kept: numbers for refusals, and the settings and what is handed out one by one: the C interface.
+// Kept: numbers for refusals, and the size and what is handed out one by one, in the exported functions: the C interface.
 ghost use Rattle.std.specs.Prelude.{◌≡◌};
 ghost use Rattle.refusals.specs.Definitions.Outcomes.{answer_number};
 ghost use Rattle.pyramid.specs.Definitions.Calls.{leaves};
@@ -14,7 +14,7 @@ pub fn lepsarvu_pgm_size(columns: u16, rows: u16, size: &mut usize) -> u16
     ensures value { result ≡ (size_answer columns rows).refusal }
     ensures size_after { size.new ≡ leaves result (size_answer columns rows).size size.old }
 {
-    give(pgm::pgm_size(columns, rows), size)
+    give(pgm::pgm_size(Dimensions { columns, rows }), size)
 }
 
 pub fn lepsarvu_write_pgm(
@@ -31,7 +31,10 @@ pub fn lepsarvu_write_pgm(
         leaves result (write_pgm columns rows picture.now file.old).answer.size
         size.old }
 {
-    give(pgm::write_pgm(columns, rows, picture, file), size)
+    give(
+        pgm::write_pgm(Dimensions { columns, rows }, picture, file),
+        size,
+    )
 }
 
 // Width and height, into what was lent for them.
@@ -41,14 +44,8 @@ fn give_picture_size(answer: Result<Dimensions, Refusal>, columns: &mut u16, row
     ensures columns_after { columns.new ≡ given answer (λ size. size.columns) columns.old }
     ensures rows_after { rows.new ≡ given answer (λ size. size.rows) rows.old }
 {
-    match answer {
-        Ok(size) => {
-            *columns = size.columns;
-            *rows = size.rows;
-            0
-        }
-        Err(refusal) => u16::from(refusal),
-    }
+    give(answer.map(|size| size.columns), columns);
+    give(answer.map(|size| size.rows), rows)
 }
 
 pub fn lepsarvu_read_pgm(file: &[u8], picture: &mut [u8], columns: &mut u16, rows: &mut u16) -> u16

@@ -1,6 +1,7 @@
 // The functions of the crate lepsarvu as a static library: each export calls the function of its name and has its clauses. include/lepsarvu.h
 // declares them.
-// Kept: numbers for refusals, and the settings and what is handed out one by one: the C interface.
+// Kept: each function is that of `lepsarvu` again, with its clauses, since no crate can stand on a static library, and Rattle callers, test_exports among
+// them, need these functions too (docs/DECISIONS.md). Numbers for refusals, and the settings and what is handed out one by one: the C interface.
 #![tactic(auto)]
 
 ghost use Rattle.std.specs.Prelude.{◌≡◌, length};

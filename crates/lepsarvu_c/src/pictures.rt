@@ -1,5 +1,6 @@
 // PGM pictures: the exports of `lepsarvu::pictures`.
-// Kept: numbers for refusals, and the settings and what is handed out one by one: the C interface.
+// Kept: each function is that of `lepsarvu` again, with its clauses, since no crate can stand on a static library, and Rattle callers, test_exports among
+// them, need these functions too (docs/DECISIONS.md). Numbers for refusals, and the settings and what is handed out one by one: the C interface.
 ghost use Rattle.std.specs.Prelude.{◌≡◌};
 ghost use Rattle.pyramid.specs.Definitions.Calls.{leaves};
 ghost use Rattle.pgm.specs.Definitions.Calls.{check_pgm, read_pgm, size_answer, write_pgm};

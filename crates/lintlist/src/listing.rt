@@ -5,12 +5,20 @@ use std::io;
 use std::io::Write;
 
 // Text, and a number in decimal after it.
-// Kept: a number's digits are those of `decimals`, as in every text that is read or written (document 02, P2).
+// Kept: a number's digits are those of `decimals`, as in every text that is read or written (document 02, P2), and not those of a format.
 fn number<W: Write>(out: &mut W, word: &[u8], n: u32) -> io::Result<()> {
     let mut digits = [0; 10];
     let count = decimals::put_decimal(n, &mut digits, 0).unwrap_or(0);
     out.write_all(word)?;
     out.write_all(&digits[..count])
+}
+
+// A line of numbers, each after its text.
+fn print_line<W: Write>(out: &mut W, numbers: &[(&[u8], u16)]) -> io::Result<()> {
+    for (word, n) in numbers {
+        number(out, word, u32::from(*n))?;
+    }
+    out.write_all(b"\n")
 }
 
 // A percentage by its bits.
@@ -24,11 +32,13 @@ fn print_reading<W: Write>(out: &mut W, reading: Reading) -> io::Result<()> {
 }
 
 fn print_picture<W: Write>(out: &mut W, s: Settings) -> io::Result<()> {
-    number(out, b"picture ", u32::from(s.columns))?;
-    number(out, b" ", u32::from(s.rows))?;
-    number(out, b" depth ", u32::from(s.depth))?;
-    number(out, b" kernel ", u32::from(s.kernel))?;
-    out.write_all(b"\n")
+    let numbers: [(&[u8], u16); 4] = [
+        (b"picture ", s.columns),
+        (b" ", s.rows),
+        (b" depth ", s.depth),
+        (b" kernel ", s.kernel),
+    ];
+    print_line(out, &numbers)
 }
 
 fn print_note<W: Write>(out: &mut W, note: Note) -> io::Result<()> {
@@ -47,12 +57,14 @@ fn print_level<W: Write>(
     bin: u16,
     bound: u16,
 ) -> io::Result<()> {
-    number(out, b"level ", u32::from(level))?;
-    number(out, b" ", u32::from(size.columns))?;
-    number(out, b" ", u32::from(size.rows))?;
-    number(out, b" bin ", u32::from(bin))?;
-    number(out, b" within ", u32::from(bound))?;
-    out.write_all(b"\n")
+    let numbers: [(&[u8], u16); 5] = [
+        (b"level ", level),
+        (b" ", size.columns),
+        (b" ", size.rows),
+        (b" bin ", bin),
+        (b" within ", bound),
+    ];
+    print_line(out, &numbers)
 }
 
 // From level N down.
@@ -79,9 +91,6 @@ fn print_bale<W: Write>(out: &mut W, b: Bale) -> io::Result<()> {
 pub(crate) fn print<W: Write>(out: &mut W, file: &[u8]) -> io::Result<()> {
     match bale::check_file(file) {
         Ok(b) => print_bale(out, b),
-        Err(refusal) => {
-            number(out, b"refused ", u32::from(u16::from(refusal)))?;
-            out.write_all(b"\n")
-        }
+        Err(refusal) => print_line(out, &[(b"refused ", u16::from(refusal))]),
     }
 }

@@ -12,13 +12,13 @@ use lib.Seq.{take_all}
 use Rattle.refusals.specs.declared.Refusal.TheVariants.{Header, Greatest, PixelCount, PictureLength}
 use Rattle.refusals.specs.Definitions.Outcomes.{outcome}
 use Rattle.refusals.proofs.Outcomes.{refuses, accepts}
+use Rattle.pyramid.specs.declared.Dimensions.{Dimensions}
 use Rattle.pyramid.specs.Definitions.Settings.{size_ok}
 use Rattle.pyramid.specs.Definitions.Refusals.{unless, first}
 use Rattle.pyramid.specs.Checks.Conditions.{SideRule}
 use Rattle.pyramid.proofs.Refusals.{first_nil, first_stop, unless_none, unless_fails, answers_skip, answers_fails, answers_passes, leaves_new, leaves_kept}
 use Rattle.pyramid.proofs.RuleTests.{size_decides}
 use Rattle.pgm.specs.declared.finding.Header.{Header as Found}
-use Rattle.pgm.specs.declared.checking.Picture.{Picture}
 use Rattle.pgm.specs.Definitions.Header.{columns_in, rows_in, pixels_place}
 use Rattle.pgm.specs.Definitions.Calls.{check_refusal, read_refusal, picture_size, size_in, check_pgm, read_pgm}
 use Rattle.pgm.specs.Inner.Found.{header_in, picture_in}
@@ -62,12 +62,9 @@ module _ (bytes : List ℕ) {h : Found} (e : Some h ≡ header_in bytes) where
   abbrev size_number : ℕ
   size_number = unless (size_ok h.columns h.rows) 1
 
-  -- the place and the pixels can be added up
-  pub whole_within : {size : ℕ} → size_number ≡ 0 → size ≡ h.rows * h.columns → h.pixels + size ≤ length bytes + 16644
-  whole_within none s =
-      let small = (size_accepted h.columns h.rows none).most in
-      let place : h.pixels ≤ length bytes + 3 = rw there.is (pixels_within bytes) in
-      omega arith
+  -- the pixels start inside the file, or at its end
+  pub pixels_inside : h.pixels ≤ length bytes
+  pixels_inside = rw there.is (pixels_within bytes there.ok)
 
   after_header : first (size_number ∷ unless (eqb h.greatest 255) 17 ∷ unless (eqb (length bytes) (h.pixels + h.rows * h.columns)) 18 ∷ []) ≡ check_refusal bytes
   unfolding check_refusal
@@ -84,35 +81,44 @@ module _ (bytes : List ℕ) {h : Found} (e : Some h ≡ header_in bytes) where
     bad_grey value other = refuses value Greatest (answers_fails {number = 16} _ (ne_eqb _ _ other) ∙ after_size)
 
     module _ (grey : h.greatest ≡ 255) {size : ℕ} (long : size ≡ h.rows * h.columns) where
+      -- the rest of the file
+      abbrev pub pixels : List ℕ
+      pixels = take (length bytes - h.pixels) (drop h.pixels bytes)
+
+      rest_is : pixels ≡ drop h.pixels bytes
+      rest_is = take_all (length bytes - h.pixels) (drop h.pixels bytes) (omega (arith, length-drop h.pixels bytes))
+
+      whole : h.pixels + length pixels ≡ length bytes
+      whole = rw rest_is (omega (arith, length-drop h.pixels bytes, pixels_inside))
+
       after_grey : first (unless (eqb (length bytes) (h.pixels + size)) 18 ∷ []) ≡ check_refusal bytes
       after_grey = rw long (answers_passes 17 _ (eq-eqb _ _ grey) ∙ after_size)
 
-      pub bad_pixels : {A : Type 0} (value : A) → length bytes ≢ h.pixels + size → Err PixelCount ≡ outcome (check_refusal bytes) value
-      bad_pixels value other = refuses value PixelCount (answers_fails {number = 17} _ (ne_eqb _ _ other) ∙ after_grey)
+      pub bad_pixels : {A : Type 0} (value : A) → length pixels ≢ size → Err PixelCount ≡ outcome (check_refusal bytes) value
+      bad_pixels value other =
+          let wrong : length bytes ≢ h.pixels + size = λ e. other (omega (arith, whole, e)) in
+          refuses value PixelCount (answers_fails {number = 17} _ (ne_eqb _ _ wrong) ∙ after_grey)
 
-      pub all_good : length bytes ≡ h.pixels + size → Ok (record { size = record { columns = h.columns; rows = h.rows }; pixels = h.pixels }) ≡ outcome (check_refusal bytes) (picture_in bytes)
+      pub all_good : length pixels ≡ size → Ok (record { columns = h.columns; rows = h.rows }, pixels) ≡ outcome (check_refusal bytes) (picture_in bytes)
       unfolding picture_in
-      all_good same = rw there.is (accepts (picture_in bytes) (sym (sym first_nil ∙ answers_passes 18 _ (eq-eqb _ _ same) ∙ after_grey)))
+      all_good same =
+          let right : length bytes ≡ h.pixels + size = omega (arith, whole, same) in
+          rw (rest_is, there.is) (accepts (picture_in bytes) (sym (sym first_nil ∙ answers_passes 18 _ (eq-eqb _ _ right) ∙ after_grey)))
 
 -- ---- what the readers answer, of a file that is accepted but for the picture
 
-module _ (bytes : List ℕ) (none : check_refusal bytes ≡ 0) {found : Picture} (is : found ≡ picture_in bytes) where
-  place : found.pixels ≡ pixels_place bytes
+module _ (bytes : List ℕ) (none : check_refusal bytes ≡ 0) {size : Dimensions} {pixels : List ℕ} (is : (size, pixels) ≡ picture_in bytes) where
+  size_is : size ≡ record { columns = columns_in bytes; rows = rows_in bytes }
   unfolding picture_in
-  place = rw is
-
-  pub pixels_inside : found.pixels ≤ length bytes
-  pixels_inside = omega (arith, (accepted_file bytes none).whole, place)
-
-  pub checked : Ok found.size ≡ outcome (check_pgm bytes).refusal (picture_size (check_pgm bytes))
-  unfolding check_pgm size_in picture_in outcome
-  checked = rw (none, leaves_new 0 (columns_in bytes) 0 refl, leaves_new 0 (rows_in bytes) 0 refl, is)
-
-  abbrev pub pixels : List ℕ
-  pixels = take (length bytes - found.pixels) (drop found.pixels bytes)
+  size_is = ap (λ (p : Dimensions × List ℕ). p.0) is
 
   pixels_are : pixels ≡ drop (pixels_place bytes) bytes
-  pixels_are = rw place (take_all (length bytes - pixels_place bytes) (drop (pixels_place bytes) bytes) (omega (arith, length-drop (pixels_place bytes) bytes)))
+  unfolding picture_in
+  pixels_are = ap (λ (p : Dimensions × List ℕ). p.1) is
+
+  pub checked : Ok size ≡ outcome (check_pgm bytes).refusal (picture_size (check_pgm bytes))
+  unfolding check_pgm size_in outcome
+  checked = rw (none, leaves_new 0 (columns_in bytes) 0 refl, leaves_new 0 (rows_in bytes) 0 refl, size_is)
 
   long : length pixels ≡ rows_in bytes * columns_in bytes
   long = rw pixels_are (omega (arith, length-drop (pixels_place bytes) bytes, (accepted_file bytes none).whole))
@@ -128,12 +134,11 @@ module _ (bytes : List ℕ) (none : check_refusal bytes ≡ 0) {found : Picture}
         (refuses _ PictureLength five, sym (leaves_kept _ _ _ some))
 
     pub read : {w : List ℕ} → length picture ≡ length pixels → w ≡ pixels
-        → (Ok found.size ≡ outcome (read_pgm bytes picture).answer.refusal (picture_size (read_pgm bytes picture).answer)) × (w ≡ (read_pgm bytes picture).picture)
-    unfolding picture_in outcome
+        → (Ok size ≡ outcome (read_pgm bytes picture).answer.refusal (picture_size (read_pgm bytes picture).answer)) × (w ≡ (read_pgm bytes picture).picture)
+    unfolding outcome
     read same copied =
         let e = reading_is bytes picture (reading_accepted bytes (length picture) none (same ∙ long)) in
-        let size : found.size ≡ record { columns = columns_in bytes; rows = rows_in bytes } = rw is in
-        rw e (ap Ok size, copied ∙ pixels_are)
+        rw e (ap Ok size_is, copied ∙ pixels_are)
 
 -- ---- what the reader answers of a file that is refused before the picture is looked at, and that nothing is touched
 

@@ -3,6 +3,7 @@ use Rattle.std.proofs.Common.{◌≡◌, refl, sym, ◌∙◌, Option, Some, Non
 use mathlib.Core.Bool.{Bool, true, false, cond, ◌&&◌}
 use mathlib.Core.List.{List, [], ◌∷◌}
 use Prim.Native.Nat.{ℕ, ◌+◌, ◌≤◌, ◌<◌}
+use native.Mathlib.Decide.{dec_lt}
 use borrow.Author.Tests.{lt-ltb, le-ltb, eq-eqb, ne_eqb}
 use lib.Dec.{ltb, eqb}
 use lib.ListN.{length, get_or, get_or-eq_default}
@@ -14,7 +15,7 @@ use Rattle.decimals.specs.Definitions.Text.{number_at, number_found}
 use Rattle.decimals.proofs.Reading.{found_by}
 use Rattle.pgm.specs.declared.finding.Field.{Field}
 use Rattle.pgm.specs.declared.finding.Header.{Header}
-use Rattle.pgm.specs.Definitions.Header.{is_space, digits_place, number_in, number_end, number_ok, header_ok, columns_in, rows_in, greatest_in, rows_place, greatest_place, pixels_place}
+use Rattle.pgm.specs.Definitions.Header.{is_space, digits_place, number_in, number_end, number_ok, header_ok, columns_in, rows_in, greatest_in, rows_place, greatest_place, last_space, pixels_place}
 use Rattle.pgm.specs.Inner.Found.{field_at, header_in}
 use Rattle.pgm.proofs.Passing.{end_within}
 
@@ -179,9 +180,14 @@ module _ (bytes : List ℕ) where
       go true ok e = absurd (cc)
       go false ok e = ok
 
-  pub pixels_within : pixels_place bytes ≤ length bytes + 3
-  pixels_within =
-      let two = end_within bytes (length bytes + 2) 2 (omega arith) (omega arith) in
-      let three = end_within bytes (length bytes + 2) (rows_place bytes) (omega arith) two in
-      let last = end_within bytes (length bytes + 2) (greatest_place bytes) (omega arith) three in
-      omega arith
+  -- past the end there is no white space before the pixels
+  pub pixels_within : header_ok bytes ≡ true → pixels_place bytes ≤ length bytes
+  unfolding header_ok is_space
+  pixels_within ok = cases (dec_lt (last_space bytes) (length bytes))
+    where
+      cases : Dec (last_space bytes < length bytes) → pixels_place bytes ≤ length bytes
+      cases (yes h) = omega arith
+      cases (no h) =
+          let all : Bool = name && number_ok bytes 2 && number_ok bytes (rows_place bytes) && number_ok bytes (greatest_place bytes) in
+          let none : header_ok bytes ≡ false = rw (get_or-eq_default bytes 0 {n = last_space bytes} (omega arith), and-false all) in
+          absurd (cc)

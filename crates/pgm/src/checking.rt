@@ -4,20 +4,21 @@ ghost use Rattle.refusals.specs.Definitions.Outcomes.{outcome};
 ghost use Rattle.pyramid.specs.Definitions.Settings.{size_ok};
 ghost use Rattle.pyramid.specs.Definitions.Refusals.{unless};
 ghost use Rattle.pgm.specs.Definitions.Calls.{check_refusal};
-ghost use Rattle.pgm.specs.Inner.Found.{picture_in};
+ghost use Rattle.pgm.specs.Inner.Found.{size_and_pixels, picture_in};
 
 use crate::finding;
 use pyramid::Dimensions;
 use refusals::Refusal;
 
-// A picture that a file holds: its size, and where its pixels start.
+// A picture that a file holds.
 #[derive(Clone, Copy)]
-pub struct Picture {
+pub struct Picture<'a> {
     pub size: Dimensions,
-    pub pixels: usize,
+    pub pixels: &'a [u8],
 }
 
 // The size of a picture. Refused: 1, which is the pyramid's.
+// Kept: columns and rows one by one, since a header's numbers have 32 bits. They are `Dimensions`, which have 16, only where this function accepts them.
 fn lawful_size(columns: u32, rows: u32) -> Result<Dimensions, Refusal>
     ensures { result ≡ outcome (unless (size_ok columns rows) 1) (record { columns = columns; rows = rows }) }
 {
@@ -33,7 +34,7 @@ fn lawful_size(columns: u32, rows: u32) -> Result<Dimensions, Refusal>
 
 // The picture of a file that is lent alone. Refused: 16, 1, 17, 18.
 pub fn accepted(file: &[u8]) -> Result<Picture, Refusal>
-    ensures { result ≡ outcome (check_refusal file.now) (picture_in file.now) }
+    ensures { size_and_pixels result ≡ outcome (check_refusal file.now) (picture_in file.now) }
 {
     let Some(header) = finding::find_header(file) else {
         return Err(Refusal::Header);
@@ -42,11 +43,9 @@ pub fn accepted(file: &[u8]) -> Result<Picture, Refusal>
     if header.greatest != 255 {
         return Err(Refusal::Greatest);
     }
-    if file.len() != header.pixels + size.rows as usize * size.columns as usize {
+    let pixels = &file[header.pixels..];
+    if pixels.len() != size.rows as usize * size.columns as usize {
         return Err(Refusal::PixelCount);
     }
-    Ok(Picture {
-        size,
-        pixels: header.pixels,
-    })
+    Ok(Picture { size, pixels })
 }

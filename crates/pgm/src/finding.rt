@@ -1,5 +1,6 @@
 // What the header of a file says (document 02, P2).
-// Kept: a file and a place in it, as the definitions have them, past its end too.
+// Kept: a file and a place in it, not the rest of the file. The definitions of a header (specs/Definitions/Header.antt) are of places in the whole file,
+// also where its pixels start; of a rest each contract would have to say what it is the rest of, or those places be added up in each.
 ghost use Rattle.std.specs.Prelude.{◌≡◌, ◌≤◌, length};
 ghost use Rattle.pgm.specs.Definitions.Header.{is_space, digits_place};
 ghost use Rattle.pgm.specs.Inner.Found.{passed, inside_after, field_at, header_in};

@@ -19,11 +19,10 @@ pub fn read_pgm(file: &[u8], picture: &mut [u8]) -> Result<Dimensions, Refusal>
     ensures picture_after { picture.new ≡ (read_pgm file.now picture.old).picture }
 {
     let found = checking::accepted(file)?;
-    let pixels = &file[found.pixels..];
-    if picture.len() != pixels.len() {
+    if picture.len() != found.pixels.len() {
         return Err(Refusal::PictureLength);
     }
-    picture.copy_from_slice(pixels);
+    picture.copy_from_slice(found.pixels);
     Ok(found.size)
 }
 
@@ -35,27 +34,28 @@ pub fn check_pgm(file: &[u8]) -> Result<Dimensions, Refusal>
 }
 
 // The size of a file of a picture of this size. Refused: 1.
-pub fn pgm_size(columns: u16, rows: u16) -> Result<usize, Refusal>
-    ensures { result ≡ outcome (size_answer columns rows).refusal (size_answer columns rows).size }
+pub fn pgm_size(size: Dimensions) -> Result<usize, Refusal>
+    ensures { result ≡ outcome (size_answer size.columns size.rows).refusal (size_answer size.columns size.rows).size }
 {
-    pyramid::deepest_depth(columns, rows)?;
-    let numbers = decimals::digit_count(columns as u32) + decimals::digit_count(rows as u32);
-    Ok(9 + numbers + rows as usize * columns as usize)
+    pyramid::deepest_depth(size.columns, size.rows)?;
+    let numbers = decimals::digit_count(size.columns as u32)
+        + decimals::digit_count(size.rows as u32);
+    Ok(9 + numbers + size.rows as usize * size.columns as usize)
 }
 
-// Writes a picture and answers the file's size. Refused: 1, 5, 8.
-pub fn write_pgm(columns: u16, rows: u16, picture: &[u8], file: &mut [u8]) -> Result<usize, Refusal>
-    ensures value { result ≡ outcome (write_pgm columns rows picture.now file.old).answer.refusal
-        (write_pgm columns rows picture.now file.old).answer.size }
-    ensures file_after { file.new ≡ (write_pgm columns rows picture.now file.old).file }
+// Writes a picture of this size and answers the file's size. Refused: 1, 5, 8.
+pub fn write_pgm(size: Dimensions, picture: &[u8], file: &mut [u8]) -> Result<usize, Refusal>
+    ensures value { result ≡ outcome (write_pgm size.columns size.rows picture.now file.old).answer.refusal
+        (write_pgm size.columns size.rows picture.now file.old).answer.size }
+    ensures file_after { file.new ≡ (write_pgm size.columns size.rows picture.now file.old).file }
 {
-    let size = pgm_size(columns, rows)?;
-    if picture.len() != rows as usize * columns as usize {
+    let bytes = pgm_size(size)?;
+    if picture.len() != size.rows as usize * size.columns as usize {
         return Err(Refusal::PictureLength);
     }
-    if file.len() < size {
+    if file.len() < bytes {
         return Err(Refusal::FileLength);
     }
-    putting::put_pgm(columns, rows, picture, &mut file[..size]);
-    Ok(size)
+    putting::put_pgm(size, picture, &mut file[..bytes]);
+    Ok(bytes)
 }

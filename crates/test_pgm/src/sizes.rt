@@ -2,6 +2,7 @@
 use crate::parts;
 use crate::parts::{Call, Finding, MOST_PIXELS, MOST_PLACES, Part};
 use crate::writers::{AFTER, MOST_ROOM};
+use pyramid::Dimensions;
 use refusals::Refusal;
 use test_support::comparing::first_difference;
 use test_support::fillers::{byte_filler, fill, first_changed};
@@ -28,8 +29,7 @@ const SMALLEST: Layout = Layout {
 // Two sides, and the layout of their file, or the refusal of the size.
 #[derive(Clone, Copy)]
 struct Worked {
-    columns: u16,
-    rows: u16,
+    size: Dimensions,
     layout: Result<Layout, Refusal>,
 }
 
@@ -59,15 +59,14 @@ fn worked_of(columns: u16, rows: u16) -> Worked {
         _ => Err(Refusal::Size),
     };
     Worked {
-        columns,
-        rows,
+        size: Dimensions { columns, rows },
         layout,
     }
 }
 
 // What stands before the pixels, and zeros.
-fn header(columns: u16, rows: u16) -> [u8; 15] {
-    match (columns, rows) {
+fn header(size: Dimensions) -> [u8; 15] {
+    match (size.columns, size.rows) {
         (2, 2) => *b"P5\n2 2\n255\n\0\0\0\0",
         (2, _) => *b"P5\n2 129\n255\n\0\0",
         (_, 2) => *b"P5\n129 2\n255\n\0\0",
@@ -81,7 +80,7 @@ fn size_of(layout: Result<Layout, Refusal>) -> Result<usize, Refusal> {
 }
 
 fn check_size(w: Worked) -> Option<Finding> {
-    let got = pgm::pgm_size(w.columns, w.rows);
+    let got = pgm::pgm_size(w.size);
     let size = compare_size(Part::Refusal, Part::Size, got, size_of(w.layout));
     of_call(Call::Sizing, size)
 }
@@ -129,7 +128,7 @@ impl Lent {
 
 // What an accepted writing leaves: a header, the pixels, and the bytes after them as they were.
 fn compare_file(w: Worked, layout: Layout, picture: &[u8], out: &[u8]) -> Option<Finding> {
-    let byte = first_difference(&header(w.columns, w.rows), out, layout.start);
+    let byte = first_difference(&header(w.size), out, layout.start);
     let pixel = first_difference(picture, rest(out, layout.start), layout.pixels);
     let kept = first_changed(out, layout.size, byte_filler);
     Finding::compared(Part::Byte, byte)
@@ -160,7 +159,7 @@ fn check_lent(
     out: &mut [u8],
 ) -> Option<Finding> {
     fill(out, byte_filler);
-    let got = pgm::write_pgm(w.columns, w.rows, picture, out);
+    let got = pgm::write_pgm(w.size, picture, out);
     let size = compare_size(Part::Refusal, Part::Size, got, size_of(written));
     size.or(compare_left(w, written, picture, out))
 }

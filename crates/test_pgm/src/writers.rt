@@ -27,7 +27,7 @@ pub(crate) struct Written<'a> {
 // refused one all.
 fn check_writing(e: Result<usize, Refusal>, w: Written, out: &mut [u8]) -> Option<Finding> {
     fill(out, byte_filler);
-    let got = pgm::write_pgm(w.size.columns, w.size.rows, w.picture, out);
+    let got = pgm::write_pgm(w.size, w.picture, out);
     let size = e.unwrap_or(0);
     let byte = first_difference(w.file, out, size);
     let kept = first_changed(out, size, byte_filler);
@@ -60,7 +60,7 @@ fn check_picture(room: Room, w: Written, picture: &[u8]) -> Option<Finding> {
 
 // Reads the file that is written into a buffer: the picture.
 fn check_back(w: Written, out: &mut [u8]) -> Option<Finding> {
-    let got = pgm::write_pgm(w.size.columns, w.size.rows, w.picture, out);
+    let got = pgm::write_pgm(w.size, w.picture, out);
     let written = compare_size(Part::Refusal, Part::Size, got, Ok(w.file.len()));
     let case = Case {
         expected: Ok(w.size),
@@ -79,7 +79,7 @@ fn check_read_back(w: Written) -> Option<Finding> {
 
 // Writes a picture, of which a place more is lent: the single form. With that place, and with one place fewer, it is refused.
 pub(crate) fn check_written(w: Written, more: &[u8]) -> Option<Finding> {
-    let got = pgm::pgm_size(w.size.columns, w.size.rows);
+    let got = pgm::pgm_size(w.size);
     let size = compare_size(Part::Refusal, Part::Size, got, Ok(w.file.len()));
     of_call(Call::Sizing, size)
         .or(check_rooms(w))

@@ -2,7 +2,7 @@
 use mathlib.Core.Path.{sym}
 use Rattle.refusals.proofs.Outcomes.{none, some, value-is, passed_on}
 use Rattle.pgm.specs.Definitions.Calls.{size_in, read_pgm}
-use Rattle.pgm.proofs.Answers.{pixels_inside, picture_refused, read, stops, untouched}
+use Rattle.pgm.proofs.Answers.{picture_refused, read, stops, untouched}
 use Rattle.pgm.proofs.read_pgm.Goals as goal
 
 pub returns-in_err-found : goal.returns-in_err-found
@@ -16,20 +16,14 @@ returns-in_err-found c =
       picture_after = untouched file picture refused;
     }
 
-pub slice_bounds-pixels-count : goal.slice_bounds-pixels-count
-slice_bounds-pixels-count c = let e = sym c.in_ok-found.ensures in pixels_inside _ (none _ _ e) (value-is _ _ e)
-
-pub slice_bounds-pixels-start : goal.slice_bounds-pixels-start
-slice_bounds-pixels-start c = let e = sym c.in_ok-found.ensures in pixels_inside _ (none _ _ e) (value-is _ _ e)
-
-pub returns-then-picture-pixels : goal.returns-then-picture-pixels
-returns-then-picture-pixels c =
+pub returns-then-picture-found : goal.returns-then-picture-found
+returns-then-picture-found c =
     let e = sym c.in_ok-found.ensures in
-    let refused = picture_refused _ (none _ _ e) (value-is _ _ e) c.args.picture.now c.if-picture-pixels.true in
+    let refused = picture_refused _ (none _ _ e) (value-is _ _ e) c.args.picture.now c.if-picture-found.true in
     record { value = refused.0; picture_after = refused.1 }
 
 pub returns : goal.returns
 returns c =
     let e = sym c.in_ok-found.ensures in
-    let read = read _ (none _ _ e) (value-is _ _ e) c.args.picture.now c.if-picture-pixels.false c.copy_from_slice.ensures.after in
+    let read = read _ (none _ _ e) (value-is _ _ e) c.args.picture.now c.if-picture-found.false c.copy_from_slice.ensures.after in
     record { value = read.0; picture_after = read.1 }

@@ -1,5 +1,7 @@
 -- What is found in a header, as the code holds it; and how a comment is followed byte by byte. Assumes nothing.
-use Rattle.std.specs.Prelude.{Bool, true, not, cond, ◌||◌, List, ℕ, eqb, Option, Some, None}
+use Rattle.std.specs.Prelude.{Bool, true, not, cond, ◌||◌, List, ℕ, eqb, drop, Option, Some, None, Result, Ok, Err}
+use Rattle.refusals.specs.declared.Refusal.{Refusal}
+use Rattle.pyramid.specs.declared.Dimensions.{Dimensions}
 use Rattle.pgm.specs.declared.finding.Field.{Field}
 use Rattle.pgm.specs.declared.finding.Header.{Header}
 use Rattle.pgm.specs.declared.checking.Picture.{Picture}
@@ -22,6 +24,11 @@ module _ (bytes : List ℕ) where
       (Some (record { columns = columns_in bytes; rows = rows_in bytes; greatest = greatest_in bytes; pixels = pixels_place bytes }))
       None
 
-  -- of a file that is accepted
-  unfoldable pub picture_in : Picture
-  picture_in = record { size = record { columns = columns_in bytes; rows = rows_in bytes }; pixels = pixels_place bytes }
+  -- of a file that is accepted, the size and the pixels
+  unfoldable pub picture_in : Dimensions × List ℕ
+  picture_in = (record { columns = columns_in bytes; rows = rows_in bytes }, drop (pixels_place bytes) bytes)
+
+-- and of an answer
+abbrev pub size_and_pixels : Result Picture Refusal → Result (Dimensions × List ℕ) Refusal
+size_and_pixels (Ok picture) = Ok (picture.size, picture.pixels.now)
+size_and_pixels (Err refusal) = Err refusal

@@ -4,4 +4,4 @@ use Rattle.pgm.proofs.putting.put_header.Goals as goal
 
 pub returns : goal.returns
 returns c =
-    header_whole c.args.columns c.args.rows c.copy_from_slice.ensures.after c.put_number.ensures c.put_number-2.ensures c.copy_from_slice-2.ensures.after
+    header_whole c.args.size.columns c.args.size.rows c.copy_from_slice.ensures.after c.put_number.ensures c.put_number-2.ensures c.copy_from_slice-2.ensures.after
