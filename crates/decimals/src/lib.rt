@@ -13,8 +13,8 @@ pub struct Number {
 }
 
 // How many digits a number has.
-// Kept: counted by hundreds. std's `checked_ilog10` was tried, and proves with less; `write_pgm`, which asks six times, then takes 1.55 times as long as
-// plain C at 17 by 17, instead of 1.33 (bench/run), and misses 1.5.
+// Kept: counted by hundreds. std's `checked_ilog10` was tried, and proves with less; but `write_pgm`, which asks six times, then takes 1.55 times as long
+// as plain C at 17 by 17 (bench/run), and misses 1.5. So it takes 1.44.
 #[tactic(auto, using(crate::proofs::Counting::count_one, crate::proofs::Counting::count_two, crate::proofs::Counting::count_hundreds, crate::proofs::Counting::count_most, crate::proofs::Counting::hundreds_less))]
 pub fn digit_count(n: u32) -> usize
     ensures { result ≡ length (decimal n) }
@@ -73,8 +73,8 @@ fn number_of(value: u32, digits: usize) -> Option<Number>
 // The number of at most so many digits, and never more than nine, that begins at a place; `None` where no digit stands there.
 // Kept: a text and a place in it, though the product's caller asks inside the text alone. This is a public function, whose promise of a place
 // past the end has to stand, and is tested (test_pgm/src/texts.rt).
-// Kept: the value by a loop. `from_utf8` and `parse::<u32>` were tried, and timed in this function alone: 16 ns for 12. A header has three numbers, and
-// with 12 ns more `check_pgm` misses 1.5 times plain C, of which it takes 1.34 at 17 by 17 (docs/PERFORMANCE.md).
+// Kept: the value by a loop. `from_utf8` and `parse::<u32>` were tried, and timed in this function alone: 16 ns for 12. A header has three numbers: that
+// is 12 ns more in the 42 of `check_pgm` at 17 by 17, which takes 1.5 times as long as plain C as it is (bench/run).
 pub fn number_at(text: &[u8], at: usize, most: usize) -> Option<Number>
     ensures { result ≡ number_found (number_at text.now at most) }
 {
