@@ -42,7 +42,6 @@ fn put_bins(shape: Shape, section: &mut [u8])
 }
 
 // A kind and a number.
-#[tactic(auto, unfolding(crate::specs::Definitions::Words::le32))]
 fn code_bytes(code: Code) -> [u8; 5]
     ensures { result ≡ code.kind ∷ le32 code.number }
 {
