@@ -96,6 +96,8 @@ pub fn level_bounds(s: Settings) -> Result<[u16; 7], Refusal>
     Ok(bounding::bound_slots(lawful))
 }
 
+// Kept: columns and rows one by one, here and in what tests them: they are asked about before they are known to be the dimensions of a picture, of
+// 16 bits from C (C interface) or of 32 in a PGM file's header.
 // The deepest depth that a size allows. Refused: 1, on size only.
 pub fn deepest_depth(columns: u16, rows: u16) -> Result<u16, Refusal>
     ensures { result ≡ outcome (deepest_answer columns rows).refusal (deepest_answer columns rows).depth }
