@@ -8,7 +8,6 @@ mod faults;
 mod parts;
 mod piece_a;
 mod readers;
-mod reading;
 mod singles;
 mod writers;
 
@@ -16,6 +15,8 @@ use std::{fs, io};
 use test_support::reporting::print_cases;
 
 // Runs the cases of the vectors and writes their line.
+// Kept: what it shares with the `report` of the other programs is opening a file and what is written where that fails; a function of both
+// would take a closure over the opened file, and would hide the one thing that differs, the lines that are written.
 fn report(rt: &HostRuntime, path: &str) -> io::Result<()> {
     let Ok(mut data) = fs::open(rt, path) else {
         return println!(rt; "{path}: cannot be opened");
