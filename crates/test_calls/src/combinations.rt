@@ -68,12 +68,7 @@ fn gives_first(call: Call, faults: Faults) -> bool {
 
 // The first sets of faults, four checks a set: 512 sets that coding looks for, 1,024 that rebuilding looks for.
 pub(crate) fn all(call: Call, sets: u16) -> Checks {
-    check_sets(sets, |bits, variant| {
-        let faults = Faults {
-            bits,
-            table: &FAULTS,
-            variant,
-        };
+    check_sets(&FAULTS, sets, |faults| {
         (!gives_first(call, faults)).then_some(())
     })
 }

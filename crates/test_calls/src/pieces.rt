@@ -47,8 +47,8 @@ fn check_rebuilt(
     work: &[i32],
 ) {
     t.check(answer.is_ok());
-    t.check(first_difference(work, values, values.len()).is_none());
-    t.check(first_difference(picture, pixels, pixels.len()).is_none());
+    t.check(first_difference(work, values).is_none());
+    t.check(first_difference(picture, pixels).is_none());
 }
 
 fn check_piece_a_coded(t: &mut Checks) {
@@ -58,7 +58,7 @@ fn check_piece_a_coded(t: &mut Checks) {
     let answer = answer_of(Call::Coding, PIECE_A, &mut picture, &mut levels, &mut work);
     t.check(answer.is_ok());
     t.check(levels == INDICES_A);
-    t.check(first_difference(&work, &AVERAGES_A, 13).is_none());
+    t.check(first_difference(&work, &AVERAGES_A).is_none());
     t.check(first_changed(&work, 13, work_filler).is_none());
 }
 

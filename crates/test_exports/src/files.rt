@@ -104,7 +104,7 @@ fn check_reading(t: &mut Checks, file: &[u8], places: usize, e: Result<(), u16>)
     let got = handed::by_reading(file, &mut levels[..n]);
     t.check(got == expected(e));
     t.check(match e {
-        Ok(()) => first_difference(&levels, &SMALL_LEVELS, 6).is_none(),
+        Ok(()) => first_difference(&levels, &SMALL_LEVELS[..6]).is_none(),
         Err(_) => levels == before,
     });
 }
@@ -179,12 +179,12 @@ const THREE_START: &[u8] =
 fn has_level(section: &[u8], levels: &[i16]) -> bool {
     let n = levels.len();
     usize::from(decoding::unsigned16_at(section, 0)) == n
-        && indices(rest(section, 2), levels, n).is_none()
+        && indices(rest(section, 2), levels).is_none()
 }
 
 // What the writer leaves, and what the readers make of it.
 fn check_three(t: &mut Checks, file: &[u8; 170], levels: &[i16; 66]) {
-    t.check(first_difference(file, THREE_START, 32).is_none());
+    t.check(first_difference(file, THREE_START).is_none());
     t.check(has_level(&file[30..], &levels[..6]));
     t.check(has_level(&file[44..], &levels[6..21]));
     t.check(has_level(&file[76..], &levels[21..]));

@@ -34,7 +34,7 @@ pub(crate) fn sizes() -> Checks {
 // Whether a filled buffer starts with these bytes, and keeps its fillers after them. No byte that is tried is the filler of its place.
 pub(crate) fn holds(buffer: &[u8; 40], bytes: &[u8]) -> bool {
     let n = bytes.len();
-    first_difference(buffer, bytes, n).is_none() && first_changed(buffer, n, byte_filler).is_none()
+    first_difference(buffer, bytes).is_none() && first_changed(buffer, n, byte_filler).is_none()
 }
 
 // A picture of so many columns and rows.

@@ -44,7 +44,7 @@ fn check_coded(t: &mut Checks) {
     );
     t.check(answer == 0);
     t.check(levels == INDICES);
-    t.check(first_difference(&work, &averages, 21).is_none());
+    t.check(first_difference(&work, &averages).is_none());
     t.check(first_changed(&work, 21, work_filler).is_none());
 }
 
@@ -68,7 +68,7 @@ fn check_rebuilt(t: &mut Checks) {
     );
     t.check(answer == 0);
     t.check(picture == pixels);
-    t.check(first_difference(&work, &values, 21).is_none());
+    t.check(first_difference(&work, &values).is_none());
     t.check(first_changed(&work, 21, work_filler).is_none());
 }
 
@@ -113,7 +113,7 @@ pub(crate) fn limits() -> Checks {
         let answer = rebuilding(bin, index, &mut picture, &mut work);
         t.check(answer == 0);
         t.check(picture == [0, 0, 0, pixel, 0, 0]);
-        t.check(first_difference(&work, &[0, 0, 0, value, 0, 0], 6).is_none());
+        t.check(first_difference(&work, &[0, 0, 0, value, 0, 0]).is_none());
         t.check(first_changed(&work, 6, work_filler).is_none());
     }
     for (bin, index) in REFUSED {

@@ -41,6 +41,6 @@ pub(crate) fn gives(c: Contents, room: usize, e: Result<&[u8], u16>) -> bool {
     let file = e.unwrap_or(&[]);
     let written = file.len();
     is_left(answer, size, before, e.map(|file| file.len()))
-        && first_difference(file, &out, written).is_none()
+        && first_difference(&out, file).is_none()
         && first_changed(&out, written, byte_filler).is_none()
 }

@@ -7,12 +7,13 @@ use test_support::comparing::first_difference;
 use test_support::reading::rest;
 use test_support::{answers, decoding};
 
-// What a file holds: settings, and the kinds and the numbers of two readings.
+// What a file holds: settings, the kinds and the numbers of two readings, and indices.
 #[derive(Clone, Copy)]
-pub(crate) struct Held {
+pub(crate) struct Held<'a> {
     pub settings: Settings,
     pub before_drier: Code,
     pub at_press: Code,
+    pub indices: &'a [u8],
 }
 
 // A reading in five bytes: its kind and its number.
@@ -23,12 +24,13 @@ fn code_in(bytes: &[u8]) -> Code {
     }
 }
 
-// The settings and the readings that a case says.
-pub(crate) fn held_in(said: &[u8]) -> Held {
+// The settings and the readings that a case says, and its indices.
+pub(crate) fn held_in<'a>(said: &[u8], indices: &'a [u8]) -> Held<'a> {
     Held {
         settings: decoding::settings_of(said),
         before_drier: code_in(rest(said, 22)),
         at_press: code_in(rest(said, 27)),
+        indices,
     }
 }
 
@@ -56,7 +58,7 @@ pub(crate) fn is_held(reading: Reading, code: Code) -> bool {
 
 // Reading 0 before the drier, reading 1 at the press.
 fn compare_bale(b: Bale, e: Held) -> Option<Finding> {
-    let setting = first_difference(&numbers(b.settings), &numbers(e.settings), 11);
+    let setting = first_difference(&numbers(b.settings), &numbers(e.settings));
     let note = b.note;
     let held = [
         is_held(note.before_drier, e.before_drier),

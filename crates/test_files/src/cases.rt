@@ -1,13 +1,35 @@
 // The cases of the vectors one after the other.
-use crate::parts::{Finding, Part};
+use crate::parts::{Finding, Part, cut};
 use crate::readers::Case;
-use crate::reading::Head;
-use crate::{answers, readers, reading, writers};
+use crate::{answers, readers, writers};
+use refusals::Refusal;
 use std::io;
 use std::io::Read;
+use test_support::decoding;
 use test_support::numbered::answer_of;
 use test_support::reading::{check_cases, read_exactly};
 use test_support::reporting::Tally;
+
+// How a case starts: the answer of the reader that is lent no level buffer, or what is found where no refusal has its number; T, where
+// the shape is accepted; the file's length.
+#[derive(Clone, Copy)]
+struct Head {
+    answer: Result<Result<(), Refusal>, Finding>,
+    nodes: Option<u16>,
+    length: usize,
+}
+
+// The vectors have 0 for T where the shape is refused.
+fn head_of(bytes: &[u8]) -> Head {
+    let number = decoding::unsigned16_at(bytes, 0);
+    let unknown = Finding::of_part(Part::UnknownRefusal, usize::from(number));
+    let nodes = decoding::unsigned16_at(bytes, 2);
+    Head {
+        answer: answer_of(number, ()).ok_or(unknown),
+        nodes: (nodes != 0).then_some(nodes),
+        length: decoding::unsigned32_at(bytes, 4) as usize,
+    }
+}
 
 // Both readers, and for an accepted file the writer.
 fn check_file(c: Case) -> Option<Finding> {
@@ -18,22 +40,36 @@ fn check_file(c: Case) -> Option<Finding> {
     }
 }
 
-// Reads what the case says of its file: at most 44,718 bytes are indices.
-fn check_said<R: Read>(data: &mut R, h: Head, file: &[u8]) -> io::Result<Option<Finding>> {
+// Reads what the case says of a file that is accepted: its settings and readings, and then its indices, of at most 44,718 bytes.
+fn check_accepted<R: Read>(
+    data: &mut R,
+    nodes: Option<u16>,
+    file: &[u8],
+) -> io::Result<Option<Finding>> {
     let mut said: [u8; 32] = [0; 32];
     let mut indices: [u8; 44718] = [0; 44718];
-    let is_read = reading::read_said(data, h, &mut said, &mut indices)?;
-    let Some(expected) = answer_of(h.refusal, answers::held_in(&said)) else {
-        let number = usize::from(h.refusal);
-        return Ok(Some(Finding::of_part(Part::UnknownRefusal, number)));
+    let Some(said) = read_exactly(data, &mut said, 32)? else {
+        return Ok(Some(cut()));
     };
-    let case = Case {
+    let length = 2 * usize::from(nodes.unwrap_or(0));
+    let Some(indices) = read_exactly(data, &mut indices, length)? else {
+        return Ok(Some(cut()));
+    };
+    let expected = Ok(answers::held_in(said, indices));
+    Ok(check_file(Case {
         expected,
         file,
-        nodes: h.nodes,
-        indices: &indices,
-    };
-    Ok(Finding::cut_unless(is_read, Part::EndOfVectors).or(check_file(case)))
+        nodes,
+    }))
+}
+
+// A file that is refused, of which the case says nothing more.
+fn check_refused(refusal: Refusal, nodes: Option<u16>, file: &[u8]) -> Option<Finding> {
+    check_file(Case {
+        expected: Err(refusal),
+        file,
+        nodes,
+    })
 }
 
 // The longest file has 65,594 bytes.
@@ -42,22 +78,26 @@ const MOST: usize = 65594;
 // Reads the case that starts so.
 fn check_case<R: Read>(data: &mut R, h: Head) -> io::Result<Option<Finding>> {
     let mut file: [u8; MOST] = [0; MOST];
-    let length = h.length as usize;
-    let is_read = read_exactly(data, &mut file, length)?;
-    let found = check_said(data, h, &file[..length.min(MOST)])?;
-    Ok(Finding::cut_unless(is_read, Part::EndOfVectors).or(found))
+    let Some(file) = read_exactly(data, &mut file, h.length)? else {
+        return Ok(Some(cut()));
+    };
+    match h.answer {
+        Ok(Ok(())) => check_accepted(data, h.nodes, file),
+        Ok(Err(refusal)) => Ok(check_refused(refusal, h.nodes, file)),
+        Err(unknown) => Ok(Some(unknown)),
+    }
 }
 
 // All cases to the end of the vectors.
+// Kept: what it shares with test_vectors is `check_cases`; how long a start is, what a cut case is found to be, and the check differ.
 pub(crate) fn check_all<R: Read>(data: &mut R) -> io::Result<Tally<Finding>> {
     let mut tally = Tally::new();
     let mut start: [u8; 8] = [0; 8];
-    let cut = Finding::of_part(Part::EndOfVectors, 0);
     check_cases(
         data,
         &mut start,
-        Some(cut),
-        |data, start| check_case(data, reading::head_of(start)),
+        Some(cut()),
+        |data, start| check_case(data, head_of(start)),
         |found| tally.count(found),
     )?;
     Ok(tally)

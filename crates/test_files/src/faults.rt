@@ -8,7 +8,7 @@ use refusals::Refusal;
 use test_support::faults::{Faults, Variant, check_sets};
 use test_support::reporting::Tally;
 
-// The faults in their order: six of the settings, which have the lowest bits of a set, then the writer's own.
+// The faults in their order: six of the settings, then the writer's own.
 const FAULTS: [Refusal; 10] = [
     Refusal::Size,
     Refusal::Depth,
@@ -49,11 +49,7 @@ fn lent_levels(fault: Option<Variant>) -> [i16; 14] {
 
 // The size of a file of settings with those of the faults that are the settings'.
 fn check_size(faults: Faults, s: Settings) -> Option<Finding> {
-    let own = Faults {
-        bits: faults.bits % 64,
-        ..faults
-    };
-    writers::check_size(s, own.answer(58))
+    writers::check_size(s, faults.among_first(6).answer(58))
 }
 
 // Lends the first places of the levels, or with their fault one fewer or more; and the first bytes of a buffer, as many as the file
@@ -79,13 +75,6 @@ fn check_set(faults: Faults) -> Option<Finding> {
 }
 
 // The 1,024 sets.
-// Kept: what it shares with test_pgm is `check_sets`; the table, the count of sets and the check differ.
 pub(crate) fn check_all() -> Tally<Finding> {
-    check_sets(1024, |bits, variant| {
-        check_set(Faults {
-            bits,
-            table: &FAULTS,
-            variant,
-        })
-    })
+    check_sets(&FAULTS, 1024, |faults| check_set(faults))
 }

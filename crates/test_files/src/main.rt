@@ -8,7 +8,6 @@ mod faults;
 mod parts;
 mod piece_a;
 mod readers;
-mod reading;
 mod singles;
 mod writers;
 
@@ -16,6 +15,8 @@ use std::{fs, io};
 use test_support::reporting::print_cases;
 
 // Runs the cases of the vectors and writes their line.
+// Kept: what it shares with the `report` of the other programs is opening a file, and a line where that fails. A function of test_support
+// that does it would be the only one there of which no clause can say anything, since none speaks of files.
 fn report(rt: &HostRuntime, path: &str) -> io::Result<()> {
     let Ok(mut data) = fs::open(rt, path) else {
         return println!(rt; "{path}: cannot be opened");

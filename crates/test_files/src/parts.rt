@@ -71,3 +71,8 @@ impl fmt::Display for Part {
 }
 
 pub(crate) type Finding = reporting::Finding<Spot<Call, Part>>;
+
+// What is found where the vectors end before a case does.
+pub(crate) fn cut() -> Finding {
+    Finding::of_part(Part::EndOfVectors, 0)
+}

@@ -26,9 +26,8 @@ pub(crate) fn check_size(s: Settings, e: Result<usize, Refusal>) -> Option<Findi
 
 // What a writing leaves: the file, which is empty where it is refused, and the bytes after it as they were.
 fn compare_file(file: &[u8], out: &[u8]) -> Option<Finding> {
-    let size = file.len();
-    let byte = first_difference(file, out, size);
-    let kept = first_changed(out, size, byte_filler);
+    let byte = first_difference(out, file);
+    let kept = first_changed(out, file.len(), byte_filler);
     Finding::compared(Part::Byte, byte).or(Finding::compared(Part::KeptByte, kept))
 }
 
@@ -59,6 +58,7 @@ fn check_room(room: Room, file: &[u8], w: Written) -> Option<Finding> {
     of_call(Call::Writing(room), check_writing(e, w, &mut out[..n]))
 }
 
+// Kept, the three calls: as in `check_lent` of readers.rt.
 fn check_rooms(file: &[u8], w: Written) -> Option<Finding> {
     check_size(w.settings, Ok(file.len()))
         .or(check_room(Room::Exact, file, w))

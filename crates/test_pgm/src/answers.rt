@@ -3,24 +3,28 @@ use crate::parts::{Finding, Part};
 use pyramid::Dimensions;
 use refusals::Refusal;
 use test_support::answers;
+use test_support::answers::compare_value;
 
-fn compare_side(side: Part, got: u16, e: u16) -> Option<Finding> {
-    (got != e).then_some(Finding::of_part(side, usize::from(got)))
+// What a file holds.
+#[derive(Clone, Copy)]
+pub(crate) struct Picture<'a> {
+    pub size: Dimensions,
+    pub pixels: &'a [u8],
 }
 
+// Kept: side by side, since it is shown which side differs, and `==` says only that one does.
 fn compare_sides(got: Dimensions, e: Dimensions) -> Option<Finding> {
-    compare_side(Part::Columns, got.columns, e.columns).or(compare_side(
-        Part::Rows,
-        got.rows,
-        e.rows,
-    ))
+    let columns = compare_value(Part::Columns, got.columns.into(), e.columns.into());
+    columns.or(compare_value(Part::Rows, got.rows.into(), e.rows.into()))
 }
 
 // The first difference of a reader's answer.
 // Kept: what it shares with test_files is `answers::compare`; the values, and how they are compared, differ.
 pub(crate) fn compare(
     got: Result<Dimensions, Refusal>,
-    e: Result<Dimensions, Refusal>,
+    e: Result<Picture, Refusal>,
 ) -> Option<Finding> {
-    answers::compare(Part::Refusal, got, e, compare_sides)
+    answers::compare(Part::Refusal, got, e, |size, picture| {
+        compare_sides(size, picture.size)
+    })
 }

@@ -1,6 +1,6 @@
 // The cases of the vectors one after the other.
-// Kept: an answer is the number that stands in the bytes of the vectors: `answer_of` says what it stands for.
-use crate::parts::{Finding, MOST_PIXELS, MOST_PLACES, MOST_SINGLE, Part};
+use crate::answers::Picture;
+use crate::parts::{Finding, MOST_PIXELS, MOST_PLACES, MOST_SINGLE, Part, cut};
 use crate::readers::Case;
 use crate::writers::Written;
 use crate::{parts, readers, writers};
@@ -13,20 +13,32 @@ use test_support::numbered::answer_of;
 use test_support::reading::{check_cases, read_exactly};
 use test_support::reporting::Tally;
 
+// How a case starts: the answer of the readers, or what is found where no refusal has its number; the file's length.
+#[derive(Clone, Copy)]
+struct Head {
+    answer: Result<Result<(), Refusal>, Finding>,
+    length: usize,
+}
+
+fn head_of(bytes: &[u8]) -> Head {
+    let number = decoding::unsigned16_at(bytes, 0);
+    let unknown = Finding::of_part(Part::UnknownRefusal, usize::from(number));
+    Head {
+        answer: answer_of(number, ()).ok_or(unknown),
+        length: decoding::unsigned32_at(bytes, 2) as usize,
+    }
+}
+
 // The readers over an accepted file, whose picture is lent with a place more, and the writer.
 fn check_file(size: Dimensions, file: &[u8], more: &[u8], single: &[u8]) -> Option<Finding> {
-    let picture = parts::but_last(more);
+    let pixels = parts::but_last(more);
     let written = Written {
         size,
-        picture,
+        picture: pixels,
         file: single,
     };
-    let case = Case {
-        expected: Ok(size),
-        file,
-        pixels: picture,
-    };
-    readers::check_read(case).or(writers::check_written(written, more))
+    let expected = Ok(Picture { size, pixels });
+    readers::check_read(Case { expected, file }).or(writers::check_written(written, more))
 }
 
 // Reads the single form that a case says.
@@ -38,14 +50,17 @@ fn check_single<R: Read>(
 ) -> io::Result<Option<Finding>> {
     let mut length: [u8; 4] = [0; 4];
     let mut single: [u8; MOST_SINGLE] = [0; MOST_SINGLE];
-    let is_said = read_exactly(data, &mut length, 4)?;
-    let n = decoding::unsigned32_at(&length, 0) as usize;
-    let is_read = read_exactly(data, &mut single, n)?;
-    let found = check_file(size, file, more, &single[..n.min(MOST_SINGLE)]);
-    Ok(Finding::cut_unless(is_said && is_read, Part::EndOfVectors).or(found))
+    let Some(length) = read_exactly(data, &mut length, 4)? else {
+        return Ok(Some(cut()));
+    };
+    let n = decoding::unsigned32_at(length, 0) as usize;
+    let Some(single) = read_exactly(data, &mut single, n)? else {
+        return Ok(Some(cut()));
+    };
+    Ok(check_file(size, file, more, single))
 }
 
-// Reads the picture that a case says.
+// Reads the picture that a case says, which is lent with a place more.
 fn check_picture<R: Read>(
     data: &mut R,
     size: Dimensions,
@@ -53,46 +68,42 @@ fn check_picture<R: Read>(
 ) -> io::Result<Option<Finding>> {
     let mut pixels: [u8; MOST_PLACES] = [0; MOST_PLACES];
     let n = usize::from(size.columns) * usize::from(size.rows);
-    let is_read = read_exactly(data, &mut pixels, n)?;
-    let found = check_single(data, size, file, &pixels[..n.min(MOST_PIXELS) + 1])?;
-    Ok(Finding::cut_unless(is_read, Part::EndOfVectors).or(found))
+    if read_exactly(data, &mut pixels, n)?.is_none() {
+        return Ok(Some(cut()));
+    }
+    check_single(data, size, file, &pixels[..n.min(MOST_PIXELS) + 1])
 }
 
 // Reads what the case says of a file that is accepted: its sides, its picture and its single form.
 fn check_accepted<R: Read>(data: &mut R, file: &[u8]) -> io::Result<Option<Finding>> {
     let mut sides: [u8; 4] = [0; 4];
-    let is_read = read_exactly(data, &mut sides, 4)?;
-    let size = Dimensions {
-        columns: decoding::unsigned16_at(&sides, 0),
-        rows: decoding::unsigned16_at(&sides, 2),
+    let Some(sides) = read_exactly(data, &mut sides, 4)? else {
+        return Ok(Some(cut()));
     };
-    let found = check_picture(data, size, file)?;
-    Ok(Finding::cut_unless(is_read, Part::EndOfVectors).or(found))
-}
-
-// A file that is refused, of which the case says nothing more.
-fn check_refused(refusal: Refusal, file: &[u8]) -> Option<Finding> {
-    readers::check_read(Case {
-        expected: Err(refusal),
-        file,
-        pixels: b"",
-    })
+    let size = Dimensions {
+        columns: decoding::unsigned16_at(sides, 0),
+        rows: decoding::unsigned16_at(sides, 2),
+    };
+    check_picture(data, size, file)
 }
 
 // The longest file has 65,551 bytes.
 const MOST: usize = 65551;
 
-// Reads the file of a case that starts so.
-fn check_case<R: Read>(data: &mut R, number: u16, length: usize) -> io::Result<Option<Finding>> {
+// Reads the case that starts so. Of a file that is refused it says nothing more.
+fn check_case<R: Read>(data: &mut R, h: Head) -> io::Result<Option<Finding>> {
     let mut file: [u8; MOST] = [0; MOST];
-    let is_read = read_exactly(data, &mut file, length)?;
-    let file = &file[..length.min(MOST)];
-    let found = match answer_of(number, ()) {
-        Some(Ok(())) => check_accepted(data, file)?,
-        Some(Err(refusal)) => check_refused(refusal, file),
-        None => Some(Finding::of_part(Part::UnknownRefusal, usize::from(number))),
+    let Some(file) = read_exactly(data, &mut file, h.length)? else {
+        return Ok(Some(cut()));
     };
-    Ok(Finding::cut_unless(is_read, Part::EndOfVectors).or(found))
+    match h.answer {
+        Ok(Ok(())) => check_accepted(data, file),
+        Ok(Err(refusal)) => {
+            let expected = Err(refusal);
+            Ok(readers::check_read(Case { expected, file }))
+        }
+        Err(unknown) => Ok(Some(unknown)),
+    }
 }
 
 // All cases, and those of each answer that the vectors hold.
@@ -137,15 +148,13 @@ impl Found {
 pub(crate) fn check_all<R: Read>(data: &mut R) -> io::Result<Found> {
     let mut found = Found::new();
     let mut start: [u8; 6] = [0; 6];
-    let cut = Finding::of_part(Part::EndOfVectors, 0);
     check_cases(
         data,
         &mut start,
-        (None, Some(cut)),
+        (None, Some(cut())),
         |data, start| {
-            let number = decoding::unsigned16_at(start, 0);
-            let length = decoding::unsigned32_at(start, 2) as usize;
-            Ok((answer_of(number, ()), check_case(data, number, length)?))
+            let head = head_of(start);
+            Ok((head.answer.ok(), check_case(data, head)?))
         },
         |(answer, finding)| found.count(answer, finding),
     )?;

@@ -1,4 +1,5 @@
 // Every set of the faults that the reader looks for, each fault in four variants: the first of the set is the answer.
+use crate::answers::Picture;
 use crate::parts::{Call, Finding};
 use crate::readers;
 use crate::readers::Case;
@@ -62,46 +63,35 @@ fn file_with(faults: Faults) -> [u8; 20] {
     file
 }
 
-// The size of the file, or the first fault of the set.
-fn expected(faults: Faults) -> Result<Dimensions, Refusal> {
-    faults.answer(Dimensions {
+// What the file holds.
+const PICTURE: Picture = Picture {
+    size: Dimensions {
         columns: 2,
         rows: 2,
-    })
-}
+    },
+    pixels: b"\xFA\xFB\xFC\xFD",
+};
 
 // The file, or with its fault a pixel fewer and one more, none, and 9; and of the picture its places, or with their fault one more and
 // one fewer, none, and twice as many. The reader that is lent no picture gives the first of the file's own faults.
 fn check_set(faults: Faults) -> Option<Finding> {
-    let own = Faults {
-        bits: faults.bits % 16,
-        ..faults
-    };
     let file = file_with(faults);
     let length = faults
         .choose(Refusal::PixelCount, [14, 16, 11, 20], [15; 4])
         .min(20);
     let places = faults.choose(Refusal::PictureLength, [5, 3, 0, 8], [4; 4]);
     let case = Case {
-        expected: expected(faults),
+        expected: faults.answer(PICTURE),
         file: &file[..length],
-        pixels: b"\xFA\xFB\xFC\xFD",
     };
     let checked = readers::check_checking(Case {
-        expected: expected(own),
+        expected: faults.among_first(4).answer(PICTURE),
         ..case
     });
     checked.or(readers::check_places(Call::Reading(Room::Exact), case, places))
 }
 
 // The 32 sets.
-// Kept: what it shares with test_files is `check_sets`; the table, the count of sets and the check differ.
 pub(crate) fn check_all() -> Tally<Finding> {
-    check_sets(32, |bits, variant| {
-        check_set(Faults {
-            bits,
-            table: &FAULTS,
-            variant,
-        })
-    })
+    check_sets(&FAULTS, 32, |faults| check_set(faults))
 }

@@ -20,47 +20,34 @@ const NUMBERS: [(u32, &[u8]); 11] = [
     (4294967295, b"4294967295"),
 ];
 
-// Whether digits stand at a place, and every other byte is as it was.
+// Whether digits stand at a place, and every other byte is as it was; no digits where none are to be put.
 fn is_left(digits: &[u8], buffer: &[u8], at: usize) -> bool {
     let before = at.min(buffer.len());
     let end = at.saturating_add(digits.len());
     first_changed(&buffer[..before], 0, byte_filler).is_none()
-        && first_difference(digits, rest(buffer, at), digits.len()).is_none()
+        && first_difference(rest(buffer, at), digits).is_none()
         && first_changed(buffer, end, byte_filler).is_none()
 }
 
-// A number in a filled buffer, at a place where it has room.
-fn is_put(number: u32, digits: &[u8], buffer: &mut [u8], at: usize) -> bool {
+// A number in a filled buffer, at a place: its digits, or none where it has no room.
+fn is_put(number: u32, digits: Option<&[u8]>, buffer: &mut [u8], at: usize) -> bool {
     fill(buffer, byte_filler);
     let got = decimals::put_decimal(number, buffer, at);
-    got == Some(digits.len()) && is_left(digits, buffer, at)
-}
-
-// The same where it has none.
-fn is_refused(number: u32, buffer: &mut [u8], at: usize) -> bool {
-    fill(buffer, byte_filler);
-    let got = decimals::put_decimal(number, buffer, at);
-    got.is_none() && first_changed(buffer, 0, byte_filler).is_none()
+    got == digits.map(|digits| digits.len()) && is_left(digits.unwrap_or(&[]), buffer, at)
 }
 
 // In a buffer of so many bytes, at most 24.
-fn check_put(t: &mut Checks, number: u32, digits: &[u8], room: usize, at: usize) {
+fn check_put(t: &mut Checks, number: u32, digits: Option<&[u8]>, room: usize, at: usize) {
     let mut buffer: [u8; 24] = [0; 24];
     let n = room.min(24);
     t.check(is_put(number, digits, &mut buffer[..n], at));
-}
-
-fn check_refused(t: &mut Checks, number: u32, room: usize, at: usize) {
-    let mut buffer: [u8; 24] = [0; 24];
-    let n = room.min(24);
-    t.check(is_refused(number, &mut buffer[..n], at));
 }
 
 // At the start, later, and at the last place that has room, in 24 bytes; and in as many bytes as there are digits.
 fn check_room(t: &mut Checks, number: u32, digits: &[u8]) {
     let n = digits.len();
     for (room, at) in [(24, 0), (24, 5), (24, 24usize.saturating_sub(n)), (n, 0)] {
-        check_put(t, number, digits, room, at);
+        check_put(t, number, Some(digits), room, at);
     }
 }
 
@@ -75,7 +62,7 @@ fn check_no_room(t: &mut Checks, number: u32, n: usize) {
         (n, 1),
         (0, 0),
     ] {
-        check_refused(t, number, room, at);
+        check_put(t, number, None, room, at);
     }
 }
 

@@ -74,6 +74,11 @@ impl fmt::Display for Part {
 
 pub(crate) type Finding = reporting::Finding<Spot<Call, Part>>;
 
+// What is found where the vectors end before a case does.
+pub(crate) fn cut() -> Finding {
+    Finding::of_part(Part::EndOfVectors, 0)
+}
+
 // All bytes but the last; none where there is none.
 pub(crate) fn but_last(bytes: &[u8]) -> &[u8] {
     &bytes[..bytes.len().saturating_sub(1)]

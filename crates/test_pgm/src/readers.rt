@@ -1,28 +1,24 @@
 // The two readers over a file.
 use crate::answers;
-use crate::parts::{Call, Finding, MOST_PIXELS, MOST_PLACES, Part};
-use pyramid::Dimensions;
+use crate::answers::Picture;
+use crate::parts::{Call, Finding, MOST_PLACES, Part};
 use refusals::Refusal;
 use test_support::comparing::first_difference;
 use test_support::fillers::{byte_filler, fill, first_changed};
 use test_support::reporting::of_call;
 use test_support::rooms::Room;
 
-// What a file is to be read to, and the pixels that it is said to hold.
+// What a file is to be read to.
 #[derive(Clone, Copy)]
-pub(crate) struct Case<'a> {
-    pub expected: Result<Dimensions, Refusal>,
-    pub file: &'a [u8],
-    pub pixels: &'a [u8],
+pub(crate) struct Case<'f, 'p> {
+    pub expected: Result<Picture<'p>, Refusal>,
+    pub file: &'f [u8],
 }
 
 // What a reader leaves in the picture: of an accepted file its pixels, of a refused one nothing.
 fn compare_picture(c: Case, picture: &[u8]) -> Option<Finding> {
     match c.expected {
-        Ok(_) => {
-            let pixel = first_difference(c.pixels, picture, picture.len());
-            Finding::compared(Part::Pixel, pixel)
-        }
+        Ok(e) => Finding::compared(Part::Pixel, first_difference(e.pixels, picture)),
         Err(_) => {
             let kept = first_changed(picture, 0, byte_filler);
             Finding::compared(Part::KeptPixel, kept)
@@ -31,6 +27,8 @@ fn compare_picture(c: Case, picture: &[u8]) -> Option<Finding> {
 }
 
 // The reader that is lent a filled picture.
+// Kept: test_files' function of this name fills a buffer of indices, calls another reader and compares otherwise: all that is the same is
+// that there are three steps.
 fn check_reading(c: Case, picture: &mut [u8]) -> Option<Finding> {
     fill(picture, byte_filler);
     let got = pgm::read_pgm(c.file, picture);
@@ -51,24 +49,22 @@ pub(crate) fn check_checking(c: Case) -> Option<Finding> {
     of_call(Call::Checking, answers::compare(got, c.expected))
 }
 
-// The second reader with as many places as the file has pixels, or some where it is refused; or one more or fewer.
-fn check_room(room: Room, c: Case) -> Option<Finding> {
-    let needed = if c.pixels.is_empty() {
-        4
-    } else {
-        c.pixels.len().min(MOST_PIXELS)
-    };
-    check_places(Call::Reading(room), c, room.places(needed, 1))
+// The second reader with so many places, or one more or fewer.
+fn check_room(room: Room, c: Case, places: usize) -> Option<Finding> {
+    check_places(Call::Reading(room), c, room.places(places, 1))
 }
 
-// Both readers, and the second with one place more and one fewer, which is refused where the file is accepted.
+// Both readers, the second with as many places as the file has pixels, or some where it is refused; and with one place more and one
+// fewer, which is refused where the file is accepted.
+// Kept: a table of the three rooms with what each is to answer, and a `find_map` over it, would be as long as the three calls.
 pub(crate) fn check_read(c: Case) -> Option<Finding> {
+    let places = c.expected.map_or(4, |picture| picture.pixels.len());
     let other = Case {
         expected: c.expected.and(Err(Refusal::PictureLength)),
         ..c
     };
     check_checking(c)
-        .or(check_room(Room::Longer, other))
-        .or(check_room(Room::Shorter, other))
-        .or(check_room(Room::Exact, c))
+        .or(check_room(Room::Longer, other, places))
+        .or(check_room(Room::Shorter, other, places))
+        .or(check_room(Room::Exact, c, places))
 }

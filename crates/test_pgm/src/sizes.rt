@@ -4,6 +4,7 @@ use crate::parts::{Call, Finding, MOST_PIXELS, MOST_PLACES, Part};
 use crate::writers::{AFTER, MOST_ROOM};
 use pyramid::Dimensions;
 use refusals::Refusal;
+use std::array;
 use test_support::comparing::first_difference;
 use test_support::fillers::{byte_filler, fill, first_changed};
 use test_support::reading::rest;
@@ -11,18 +12,18 @@ use test_support::reporting::{Tally, of_call};
 use test_support::rooms::Room;
 use test_support::sizes::compare_size;
 
-// The number of pixels, the place of the first and the size of the file.
+// The number of pixels, what stands before them and the size of the file.
 #[derive(Clone, Copy)]
 struct Layout {
     pixels: usize,
-    start: usize,
+    header: &'static [u8],
     size: usize,
 }
 
 // The one of 2 by 2, whose lengths are lent for sides that have none.
 const SMALLEST: Layout = Layout {
     pixels: 4,
-    start: 11,
+    header: b"P5\n2 2\n255\n",
     size: 15,
 };
 
@@ -43,35 +44,38 @@ impl Worked {
 const SIDES: [u16; 6] = [0, 1, 2, 129, 130, 65535];
 
 // Only 2 and 129 are lawful.
-fn worked_of(columns: u16, rows: u16) -> Worked {
-    let layout = match (columns, rows) {
+fn layout_of(size: Dimensions) -> Result<Layout, Refusal> {
+    match (size.columns, size.rows) {
         (2, 2) => Ok(SMALLEST),
-        (2, 129) | (129, 2) => Ok(Layout {
+        (2, 129) => Ok(Layout {
             pixels: 258,
-            start: 13,
+            header: b"P5\n2 129\n255\n",
+            size: 271,
+        }),
+        (129, 2) => Ok(Layout {
+            pixels: 258,
+            header: b"P5\n129 2\n255\n",
             size: 271,
         }),
         (129, 129) => Ok(Layout {
             pixels: 16641,
-            start: 15,
+            header: b"P5\n129 129\n255\n",
             size: 16656,
         }),
         _ => Err(Refusal::Size),
-    };
-    Worked {
-        size: Dimensions { columns, rows },
-        layout,
     }
 }
 
-// What stands before the pixels, and zeros.
-fn header(size: Dimensions) -> [u8; 15] {
-    match (size.columns, size.rows) {
-        (2, 2) => *b"P5\n2 2\n255\n\0\0\0\0",
-        (2, _) => *b"P5\n2 129\n255\n\0\0",
-        (_, 2) => *b"P5\n129 2\n255\n\0\0",
-        _ => *b"P5\n129 129\n255\n",
-    }
+// Every two sides.
+fn all_worked() -> [Worked; 36] {
+    array::from_fn(|i| {
+        let size = Dimensions {
+            columns: SIDES[i / 6 % 6],
+            rows: SIDES[i % 6],
+        };
+        let layout = layout_of(size);
+        Worked { size, layout }
+    })
 }
 
 // What a call is to answer that answers the file's size.
@@ -87,10 +91,8 @@ fn check_size(w: Worked) -> Option<Finding> {
 
 pub(crate) fn check_sizes() -> Tally<Finding> {
     let mut tally = Tally::new();
-    for columns in SIDES {
-        for rows in SIDES {
-            tally.count(check_size(worked_of(columns, rows)));
-        }
+    for w in all_worked() {
+        tally.count(check_size(w));
     }
     tally
 }
@@ -126,10 +128,18 @@ impl Lent {
     }
 }
 
+// A size and a picture that are lent, and what is written, or the refusal.
+#[derive(Clone, Copy)]
+struct Writing<'a> {
+    size: Dimensions,
+    picture: &'a [u8],
+    written: Result<Layout, Refusal>,
+}
+
 // What an accepted writing leaves: a header, the pixels, and the bytes after them as they were.
-fn compare_file(w: Worked, layout: Layout, picture: &[u8], out: &[u8]) -> Option<Finding> {
-    let byte = first_difference(&header(w.size), out, layout.start);
-    let pixel = first_difference(picture, rest(out, layout.start), layout.pixels);
+fn compare_file(layout: Layout, picture: &[u8], out: &[u8]) -> Option<Finding> {
+    let byte = first_difference(out, layout.header);
+    let pixel = first_difference(rest(out, layout.header.len()), picture);
     let kept = first_changed(out, layout.size, byte_filler);
     Finding::compared(Part::Byte, byte)
         .or(Finding::compared(Part::Pixel, pixel))
@@ -137,14 +147,9 @@ fn compare_file(w: Worked, layout: Layout, picture: &[u8], out: &[u8]) -> Option
 }
 
 // What a writing leaves: a refused one all as it was.
-fn compare_left(
-    w: Worked,
-    written: Result<Layout, Refusal>,
-    picture: &[u8],
-    out: &[u8],
-) -> Option<Finding> {
-    match written {
-        Ok(layout) => compare_file(w, layout, picture, out),
+fn compare_left(x: Writing, out: &[u8]) -> Option<Finding> {
+    match x.written {
+        Ok(layout) => compare_file(layout, x.picture, out),
         Err(_) => {
             let kept = first_changed(out, 0, byte_filler);
             Finding::compared(Part::KeptByte, kept)
@@ -152,23 +157,22 @@ fn compare_left(
     }
 }
 
-fn check_lent(
-    w: Worked,
-    written: Result<Layout, Refusal>,
-    picture: &[u8],
-    out: &mut [u8],
-) -> Option<Finding> {
+fn check_lent(x: Writing, out: &mut [u8]) -> Option<Finding> {
     fill(out, byte_filler);
-    let got = pgm::write_pgm(w.size, picture, out);
-    let size = compare_size(Part::Refusal, Part::Size, got, size_of(written));
-    size.or(compare_left(w, written, picture, out))
+    let got = pgm::write_pgm(x.size, x.picture, out);
+    let size = compare_size(Part::Refusal, Part::Size, got, size_of(x.written));
+    size.or(compare_left(x, out))
 }
 
 fn check_room(w: Worked, lent: Lent, picture: &[u8]) -> Option<Finding> {
     let mut out: [u8; MOST_ROOM] = [0; MOST_ROOM];
     let n = lent.room(w.lent().size).min(MOST_ROOM);
-    let found = check_lent(w, lent.written(w), picture, &mut out[..n]);
-    of_call(Call::Writing(Room::Exact), found)
+    let x = Writing {
+        size: w.size,
+        picture,
+        written: lent.written(w),
+    };
+    of_call(Call::Writing(Room::Exact), check_lent(x, &mut out[..n]))
 }
 
 fn check_writing(w: Worked, lent: Lent) -> Option<Finding> {
@@ -194,10 +198,8 @@ fn count_writings(tally: &mut Tally<Finding>, w: Worked) {
 
 pub(crate) fn check_writings() -> Tally<Finding> {
     let mut tally = Tally::new();
-    for columns in SIDES {
-        for rows in SIDES {
-            count_writings(&mut tally, worked_of(columns, rows));
-        }
+    for w in all_worked() {
+        count_writings(&mut tally, w);
     }
     tally
 }

@@ -4,6 +4,8 @@ use test_support::reporting::Checks;
 // A text, a place of it and how many digits are read at most; the value and how many digits it has, where there is a number.
 type Text = (&'static [u8], usize, usize, Option<(u32, usize)>);
 
+// Kept: a row states a value and a count of digits as a pair. With `==` of `decimals::Number` this `map` would make such a number of the
+// row instead of a pair of the answer.
 fn check_each(t: &mut Checks, texts: &[Text]) {
     for (text, at, most, number) in texts {
         let got = decimals::number_at(text, *at, *most);

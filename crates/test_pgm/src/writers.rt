@@ -1,4 +1,5 @@
 // The writer over an accepted file's picture.
+use crate::answers::Picture;
 use crate::parts::{Call, Finding, MOST_SINGLE, Part};
 use crate::readers::Case;
 use crate::{parts, readers};
@@ -25,29 +26,30 @@ pub(crate) struct Written<'a> {
 
 // A writing into a filled buffer, and what it leaves: one that is accepted the file, and the bytes after it as they were; a
 // refused one all.
-fn check_writing(e: Result<usize, Refusal>, w: Written, out: &mut [u8]) -> Option<Finding> {
+fn check_writing(e: Result<&[u8], Refusal>, w: Written, out: &mut [u8]) -> Option<Finding> {
     fill(out, byte_filler);
     let got = pgm::write_pgm(w.size, w.picture, out);
-    let size = e.unwrap_or(0);
-    let byte = first_difference(w.file, out, size);
-    let kept = first_changed(out, size, byte_filler);
-    compare_size(Part::Refusal, Part::Size, got, e)
+    let file = e.unwrap_or(&[]);
+    let byte = first_difference(out, file);
+    let kept = first_changed(out, file.len(), byte_filler);
+    compare_size(Part::Refusal, Part::Size, got, e.map(|file| file.len()))
         .or(Finding::compared(Part::Byte, byte))
         .or(Finding::compared(Part::KeptByte, kept))
 }
 
 // A writing into as many bytes as the file has, or into more or one fewer.
-fn check_room(call: Call, room: Room, e: Result<usize, Refusal>, w: Written) -> Option<Finding> {
+fn check_room(call: Call, room: Room, e: Result<&[u8], Refusal>, w: Written) -> Option<Finding> {
     let mut out: [u8; MOST_ROOM] = [0; MOST_ROOM];
     let n = room.places(w.file.len(), AFTER).min(MOST_ROOM);
     of_call(call, check_writing(e, w, &mut out[..n]))
 }
 
 // Refused where the buffer lacks a byte.
+// Kept, the three calls: as in `check_read` of readers.rt.
 fn check_rooms(w: Written) -> Option<Finding> {
-    let (size, short) = (Ok(w.file.len()), Err(Refusal::FileLength));
-    check_room(Call::Writing(Room::Exact), Room::Exact, size, w)
-        .or(check_room(Call::Writing(Room::Longer), Room::Longer, size, w))
+    let (file, short) = (Ok(w.file), Err(Refusal::FileLength));
+    check_room(Call::Writing(Room::Exact), Room::Exact, file, w)
+        .or(check_room(Call::Writing(Room::Longer), Room::Longer, file, w))
         .or(check_room(Call::Writing(Room::Shorter), Room::Shorter, short, w))
 }
 
@@ -62,10 +64,13 @@ fn check_picture(room: Room, w: Written, picture: &[u8]) -> Option<Finding> {
 fn check_back(w: Written, out: &mut [u8]) -> Option<Finding> {
     let got = pgm::write_pgm(w.size, w.picture, out);
     let written = compare_size(Part::Refusal, Part::Size, got, Ok(w.file.len()));
-    let case = Case {
-        expected: Ok(w.size),
-        file: out,
+    let expected = Ok(Picture {
+        size: w.size,
         pixels: w.picture,
+    });
+    let case = Case {
+        expected,
+        file: out,
     };
     let read = readers::check_places(Call::ReadingBack, case, w.picture.len());
     of_call(Call::Writing(Room::Exact), written).or(read)

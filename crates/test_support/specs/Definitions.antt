@@ -7,4 +7,3 @@ pub mod FaultySettings
 pub mod Rooms
 pub mod Cases
 pub mod Answers
-pub mod Sizes

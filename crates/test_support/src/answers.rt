@@ -6,7 +6,19 @@ ghost use Rattle.test_support.specs.Definitions.Answers.{other_number, other_ans
 use crate::reporting::{Finding, Spot};
 use refusals::{Refusal, answer_number};
 
+// A number that is answered, where it is not the one expected.
+pub fn compare_value<C: Copy, P: Copy>(
+    part: P,
+    got: usize,
+    expected: usize,
+) -> Option<Finding<Spot<C, P>>>
+    ensures { result ≡ other_number part got expected }
+{
+    (got != expected).then_some(Finding::of_part(part, got))
+}
+
 // The number of an answer, where it is not that of what is expected; 0 is that of a value.
+// Kept: the number is what is shown, 0 beside the others; so numbers are compared too, by the function that compares values.
 pub fn compare_number<T: Copy, E: Copy, C: Copy, P: Copy>(
     part: P,
     got: Result<T, Refusal>,
@@ -14,8 +26,8 @@ pub fn compare_number<T: Copy, E: Copy, C: Copy, P: Copy>(
 ) -> Option<Finding<Spot<C, P>>>
     ensures { result ≡ other_number part (answer_number got) (answer_number expected) }
 {
-    let number = answer_number(got);
-    (number != answer_number(expected)).then_some(Finding::of_part(part, usize::from(number)))
+    let number = usize::from(answer_number(got));
+    compare_value(part, number, usize::from(answer_number(expected)))
 }
 
 // A value as `values` compares it, and where the call is refused, or is to be, the numbers.

@@ -37,12 +37,11 @@ fn holds<T: PartialEq>(buffer: &[T], i: usize, expected: &T) -> bool
     buffer.get(i) == Some(expected)
 }
 
-// Of the first n places, the first at which two buffers differ.
-// Kept: n is what should be compared: a place before n that a buffer lacks counts as different, which a sub-slice could not say.
-pub fn first_difference<T: PartialEq>(a: &[T], b: &[T], n: usize) -> Option<usize>
-    ensures { result ≡ first_difference T.eq n a.now b.now }
+// The first place of what is expected at which a buffer does not hold it.
+pub fn first_difference<T: PartialEq>(got: &[T], expected: &[T]) -> Option<usize>
+    ensures { result ≡ first_difference T.eq got.now expected.now }
 {
-    first_failure(0..n, |i| is_same(a, b, i))
+    first_failure(0..expected.len(), |i| is_same(got, expected, i))
 }
 
 // The first place that does not hold what is expected there.
@@ -69,10 +68,10 @@ fn is_index(bytes: &[u8], levels: &[i16], i: usize) -> bool
     i < bytes.len() / 2 && holds(levels, i, &decoding::signed16_at(bytes, 2 * i))
 }
 
-// Of the first n places, the first at which a level buffer differs from the indices that bytes hold.
-// Kept: n as of `first_difference`, from which it differs in the test of a place alone: what both share is `first_failure`.
-pub fn indices(bytes: &[u8], levels: &[i16], n: usize) -> Option<usize>
-    ensures { result ≡ first_other_index n bytes.now levels.now }
+// The first place of a level buffer that differs from the indices that bytes hold.
+// Kept: it differs from `first_difference` in the test of a place alone: what both share is `first_failure`.
+pub fn indices(bytes: &[u8], levels: &[i16]) -> Option<usize>
+    ensures { result ≡ first_other_index bytes.now levels.now }
 {
-    first_failure(0..n, |i| is_index(bytes, levels, i))
+    first_failure(0..levels.len(), |i| is_index(bytes, levels, i))
 }

@@ -1,6 +1,7 @@
 // Little-endian numbers and settings from bytes. A byte past the end counts as 0.
-// Kept: a place may be past the end, so `from_le_bytes` joins bytes taken one by one; and the tests share no code with the decoding they test.
-ghost use Rattle.std.specs.Prelude.{◌≡◌, get_or};
+// Kept beside bale's: the tests share no code with the decoding they test.
+ghost use Rattle.std.specs.Prelude.{◌≡◌, ◌+◌, get_or};
+ghost use Rattle.mathematics.specs.Definitions.Tables.{tabulate};
 ghost use Rattle.test_support.specs.Definitions.Numbers.{unsigned16, unsigned32, signed16, signed32, settings};
 
 use crate::reading::rest;
@@ -13,23 +14,25 @@ pub fn byte_at(bytes: &[u8], at: usize) -> u8
     bytes.get(at).copied().unwrap_or(0)
 }
 
+// The N bytes at a place.
+fn bytes_at<const N: usize>(bytes: &[u8], at: usize) -> [u8; N]
+    ensures { result ≡ tabulate N (λ i. get_or bytes.now (at + i) 0) }
+{
+    let number = rest(bytes, at);
+    array::from_fn(|i| byte_at(number, i))
+}
+
+// Kept beside unsigned32_at: `from_le_bytes` is a function of each width alone, and no trait of the library has it.
 pub fn unsigned16_at(bytes: &[u8], at: usize) -> u16
     ensures { result ≡ unsigned16 bytes.now at }
 {
-    let number = rest(bytes, at);
-    u16::from_le_bytes([byte_at(number, 0), byte_at(number, 1)])
+    u16::from_le_bytes(bytes_at(bytes, at))
 }
 
 pub fn unsigned32_at(bytes: &[u8], at: usize) -> u32
     ensures { result ≡ unsigned32 bytes.now at }
 {
-    let number = rest(bytes, at);
-    u32::from_le_bytes([
-        byte_at(number, 0),
-        byte_at(number, 1),
-        byte_at(number, 2),
-        byte_at(number, 3),
-    ])
+    u32::from_le_bytes(bytes_at(bytes, at))
 }
 
 // Two's complement of 16 bits.

@@ -1,5 +1,6 @@
 // Sets of faults: one bit for each refusal of a table, the lowest bit for the first. A fault has four variants.
-ghost use Rattle.std.specs.Prelude.{◌≡◌, ℕ, cond, ◌*◌, ◌/◌, ◌%◌, ◌<◌, min, Option, Some, slice_get};
+ghost use Rattle.std.specs.Prelude.{◌≡◌, ℕ, Bool, cond, ◌*◌, ◌/◌, ◌%◌, ◌<◌, min, Option, Some, slice_get, take};
+ghost use Rattle.std.specs.List.{find};
 ghost use Rattle.test_support.specs.Definitions.FaultSets.{chosen, member, first, answer_with, place, variant_at, variant_of};
 ghost use Rattle.test_support.specs.Definitions.FaultySettings.{outside, side_with, with_sides, with_depth, with_kernel, with_bins, with_faults};
 ghost use Rattle.test_support.specs.Definitions.Tallies.{tallied};
@@ -34,32 +35,44 @@ pub struct Faults<'a> {
 }
 
 impl<'a> Faults<'a> {
+    // The first fault of the set that passes a test.
+    fn find<P: Fn(Refusal) -> bool>(&self, test: P) -> Option<Refusal>
+        requires { (refusal : Refusal) → P.pre test refusal }
+        ensures { (passes : Refusal → Bool) → ((refusal : Refusal) (r : Bool) → P.post test refusal r → r ≡ passes refusal)
+            → result ≡ find passes (chosen self.now.bits self.now.table.now) }
+    {
+        let mut bits = self.bits;
+        for refusal in self.table {
+            if bits % 2 == 1 && test(*refusal) {
+                return Some(*refusal);
+            }
+            bits /= 2;
+        }
+        None
+    }
+
     // Whether a fault is in the set.
     pub fn has(&self, fault: Refusal) -> bool
         ensures { result ≡ member fault (chosen self.now.bits self.now.table.now) }
     {
-        let mut bits = self.bits;
-        for refusal in self.table {
-            if bits % 2 == 1 && *refusal == fault {
-                return true;
-            }
-            bits /= 2;
-        }
-        false
+        self.find(|refusal| refusal == fault).is_some()
     }
 
     // The first fault of the set: what is faulty so is refused with it.
     pub fn first(&self) -> Option<Refusal>
         ensures { result ≡ first (chosen self.now.bits self.now.table.now) }
     {
-        let mut bits = self.bits;
-        for refusal in self.table {
-            if bits % 2 == 1 {
-                return Some(*refusal);
-            }
-            bits /= 2;
+        self.find(|_| true)
+    }
+
+    // Those faults of the set that are among the first of the table, so many.
+    pub fn among_first(&self, count: usize) -> Faults<'a>
+        ensures { (result.bits ≡ self.now.bits) × (result.table.now ≡ take count self.now.table.now) × (result.variant ≡ self.now.variant) }
+    {
+        Faults {
+            table: self.table.get(..count).unwrap_or(self.table),
+            ..*self
         }
-        None
     }
 
     // What is faulty so is to answer: its first fault, or this value where it has none.
@@ -104,16 +117,24 @@ impl<'a> Faults<'a> {
     }
 }
 
-// What is found in the first sets of faults, by their bits, each in its four variants.
-pub fn check_sets<F: Copy, C: Fn(u32, Variant) -> Option<F>>(sets: u16, check: C) -> Tally<F>
-    requires { (bits : ℕ) (variant : Variant) → C.pre check bits variant }
-    ensures { (found : ℕ → Variant → Option F) → ((bits : ℕ) (variant : Variant) (r : Option F) → C.post check bits variant r → r ≡ found bits variant)
+// What is found in the first sets of a table's faults, by their bits, each in its four variants.
+pub fn check_sets<'a, F: Copy, C: Fn(Faults<'a>) -> Option<F>>(
+    table: &'a [Refusal],
+    sets: u16,
+    check: C,
+) -> Tally<F>
+    requires { (faults : Faults) → C.pre check faults }
+    ensures { (found : ℕ → Variant → Option F) → ((faults : Faults) (r : Option F) → faults.table.now ≡ table.now → C.post check faults r → r ≡ found faults.bits faults.variant)
         → result ≡ tallied (λ n. found (n / 4) (variant_at (n % 4))) (4 * sets) }
 {
     let mut tally = Tally::new();
     for bits in 0..u32::from(sets) {
         for variant in VARIANTS {
-            tally.count(check(bits, variant));
+            tally.count(check(Faults {
+                bits,
+                table,
+                variant,
+            }));
         }
     }
     tally
@@ -127,6 +148,8 @@ fn slot_of(n: u16) -> usize
 }
 
 // A side outside 2 to 129.
+// Kept, here and below: columns, rows and a depth have their faults in one form, so whether they have them is all that is asked; an
+// `Option<Variant>` would hold a variant that nothing reads.
 fn outside(is_undivided: bool, variant: Variant) -> u16
     ensures { result ≡ outside is_undivided variant }
 {

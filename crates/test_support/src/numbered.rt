@@ -4,7 +4,8 @@ ghost use Rattle.refusals.specs.Definitions.Outcomes.{outcome};
 
 use refusals::Refusal;
 
-// Kept: a refusal is a number here, since another implementation's data hold it: this is where it becomes a `Refusal`.
+// Kept: a match here and no `TryFrom<u16>` of `Refusal`, since the product never reads a refusal's number: another implementation's
+// data alone hold it, which only the tests read.
 // What a number stands for: this value, or a refusal; nothing where the documents have no such number.
 #[tactic(auto, unfolding(refusals::specs::Definitions::Outcomes::outcome))]
 pub fn answer_of<T: Copy>(number: u16, value: T) -> Option<Result<T, Refusal>>

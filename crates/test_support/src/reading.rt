@@ -1,5 +1,5 @@
 // Reads the cases of a program's data.
-ghost use Rattle.std.specs.Prelude.{◌≡◌, ◌≢◌, true, false, [], ◌*◌, ◌/◌, ◌≤◌, ◌<◌, min, length, take, drop, IfOk};
+ghost use Rattle.std.specs.Prelude.{◌≡◌, ◌≢◌, true, false, [], ◌*◌, ◌/◌, ◌≤◌, ◌<◌, min, length, take, drop, IfOk, None, IfSome};
 ghost use Rattle.std.specs.Io.KnownBytes.{Consumes, IsAtEnd};
 ghost use Rattle.mathematics.specs.Definitions.Tables.{tabulate};
 ghost use Rattle.mathematics.specs.Inner.Splices.{splice};
@@ -28,19 +28,24 @@ pub fn read_full<R: Read>(source: &mut R, bytes: &mut [u8]) -> io::Result<usize>
     Ok(n)
 }
 
-// Reads n bytes to the start of a buffer; false where the data ends before, or the buffer, which then is not changed.
-// Kept: n is read from the data, and may be more than the buffer holds.
-pub fn read_exactly<R: Read>(source: &mut R, bytes: &mut [u8], n: usize) -> io::Result<bool>
-    ensures length { length bytes.new ≡ length bytes.old }
-    ensures room { IfOk result (λ is_read. is_read ≡ true → n ≤ length bytes.old) }
-    ensures kept { length bytes.old < n → bytes.new ≡ bytes.old }
-    ensures taken { IfOk result (λ is_read. is_read ≡ true → Consumes (R.remaining source.old) (R.remaining source.new) (take n bytes.new)) }
-    ensures end { IfOk result (λ is_read. is_read ≡ false → n ≤ length bytes.old → IsAtEnd (R.remaining source.new)) }
+// Reads n bytes to the start of a buffer, and answers them; nothing where the data ends before, or the buffer.
+pub fn read_exactly<'a, R: Read>(
+    source: &mut R,
+    bytes: &'a mut [u8],
+    n: usize,
+) -> io::Result<Option<&'a [u8]>>
+    ensures taken { IfOk result (λ read. IfSome read (λ part. (length part.now ≡ n) × Consumes (R.remaining source.old) (R.remaining source.new) part.now)) }
+    ensures end { IfOk result (λ read. read ≡ None → n ≤ length bytes.old → IsAtEnd (R.remaining source.new)) }
+    ensures room { IfOk result (λ read. IfSome read (λ part. n ≤ length bytes.old)) }
 {
     if bytes.len() < n {
-        return Ok(false);
+        return Ok(None);
     }
-    Ok(read_full(source, &mut bytes[0..n])? == n)
+    let part = &mut bytes[..n];
+    if read_full(source, part)? < n {
+        return Ok(None);
+    }
+    Ok(Some(part))
 }
 
 // What the start of the next case is read to be: whole; nothing, since no case is left; or cut.

@@ -1,5 +1,5 @@
 // What a case is found to be, and the count of cases and mismatches of a group.
-ghost use Rattle.std.specs.Prelude.{◌≡◌, true, false, cond, IfOk, MatchOption, Some, None};
+ghost use Rattle.std.specs.Prelude.{◌≡◌, cond, IfOk, MatchOption, Some, None};
 ghost use Rattle.std.specs.Option.{option_map};
 ghost use Rattle.test_support.specs.Definitions.Tallies.{empty, counted};
 
@@ -54,14 +54,6 @@ impl<P: Copy> Finding<P> {
             part: part.into(),
             place,
         })
-    }
-
-    // A case that is cut, unless all of it was read.
-    pub fn cut_unless<Q: Into<P> + Copy>(is_read: bool, cut: Q) -> Option<Self>
-        ensures whole { is_read ≡ true → result ≡ None }
-        ensures cut { is_read ≡ false → (p : P) × Q.converts cut p × (result ≡ Some (record { part = p; place = 0 })) }
-    {
-        Finding::compared(cut, (!is_read).then_some(0))
     }
 }
 

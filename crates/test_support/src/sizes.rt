@@ -1,8 +1,8 @@
 // How the size that a call answers differs from what is expected: one function for every program that is answered sizes.
 ghost use Rattle.std.specs.Prelude.{◌≡◌};
-ghost use Rattle.test_support.specs.Definitions.Sizes.{other_size};
+ghost use Rattle.test_support.specs.Definitions.Answers.{other_number, other_answer};
 
-use crate::answers::compare_number;
+use crate::answers::{compare, compare_value};
 use crate::reporting::{Finding, Spot};
 use refusals::Refusal;
 
@@ -14,10 +14,7 @@ pub fn compare_size<C: Copy, P: Copy>(
     got: Result<usize, Refusal>,
     expected: Result<usize, Refusal>,
 ) -> Option<Finding<Spot<C, P>>>
-    ensures { result ≡ other_size refusal size got expected }
+    ensures { result ≡ other_answer refusal (other_number size) got expected }
 {
-    match (got, expected) {
-        (Ok(x), Ok(e)) => (x != e).then_some(Finding::of_part(size, x)),
-        _ => compare_number(refusal, got, expected),
-    }
+    compare(refusal, got, expected, |x, e| compare_value(size, x, e))
 }

@@ -1,49 +1,32 @@
 // The cases of a file one after the other.
-use crate::parts::{Finding, Part};
-use crate::shape::{MOST_BYTES, Shape};
-use crate::{levels_cases, pyramid_cases};
+ghost use Rattle.std.specs.Prelude.{◌≡◌};
+
+use crate::parts::{Finding, Part, cut};
+use crate::shape::Shape;
 use std::io;
 use std::io::Read;
 use test_support::decoding;
 use test_support::reading::check_cases;
 use test_support::reporting::Tally;
 
-// The two kinds of files.
-#[derive(Clone, Copy)]
-pub(crate) enum Kind {
-    Pyramid,
-    Levels,
-}
-
-// Reads and checks the case that starts with these settings.
-// Kept: a kind of file is named where it is opened, and one match finds its check; closures would take the reader and the buffer besides.
-fn check_case<R: Read>(kind: Kind, data: &mut R, head: &[u8]) -> io::Result<Option<Finding>> {
-    let mut case: [u8; MOST_BYTES] = [0; MOST_BYTES];
-    let Some(z) = Shape::of(decoding::settings_of(head)) else {
-        return Ok(Some(Finding {
-            part: Part::Settings,
-            place: 0,
-        }));
-    };
-    match kind {
-        Kind::Pyramid => pyramid_cases::check_read(data, z, &mut case),
-        Kind::Levels => levels_cases::check_read(data, z, &mut case),
-    }
-}
-
-// All cases to the end of the file.
-pub(crate) fn check_all<R: Read>(kind: Kind, data: &mut R) -> io::Result<Tally<Finding>> {
+// All cases to the end of the file: each starts with its settings, and the rest of it is read by the check of the file's cases.
+// Kept: what it shares with test_files is `check_cases`; how long a start is, what a cut case is found to be, and the check differ.
+pub(crate) fn check_all<R: Read, C: Fn(&mut R, Shape) -> io::Result<Option<Finding>>>(
+    data: &mut R,
+    check: C,
+) -> io::Result<Tally<Finding>>
+    requires { C.IsAlwaysCallable check }
+{
     let mut tally = Tally::new();
     let mut head: [u8; 22] = [0; 22];
-    let cut = Finding {
-        part: Part::EndOfFile,
-        place: 0,
-    };
     check_cases(
         data,
         &mut head,
-        Some(cut),
-        |data, head| check_case(kind, data, head),
+        Some(cut()),
+        |data, head| match Shape::of(decoding::settings_of(head)) {
+            Some(z) => check(data, z),
+            None => Ok(Some(Finding::of_part(Part::Settings, 0))),
+        },
         |found| tally.count(found),
     )?;
     Ok(tally)

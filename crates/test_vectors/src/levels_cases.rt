@@ -1,8 +1,9 @@
 // The cases of the file `levels`: a rebuilding from levels that no coding made, accepted or refused. A case has its indices,
 // the answer and, if it is accepted, the values and the picture.
-use crate::parts::{Finding, Part};
+use crate::parts::{Finding, Part, cut};
 use crate::rebuilding;
-use crate::shape::{MOST_BYTES, Shape};
+use crate::rebuilding::Case;
+use crate::shape::{MOST_BYTES, MOST_NODES, Shape};
 use refusals::Refusal;
 use std::io;
 use std::io::Read;
@@ -19,22 +20,24 @@ fn bytes_after(answer: Result<(), Refusal>, z: Shape) -> usize {
 }
 
 // Reads a case and checks it.
-pub(crate) fn check_read<R: Read>(
-    data: &mut R,
-    z: Shape,
-    case: &mut [u8; MOST_BYTES],
-) -> io::Result<Option<Finding>> {
-    let end = 2 * z.nodes + 2;
-    let are_indices_read = read_exactly(data, case, end)?;
-    let number = decoding::unsigned16_at(case, 2 * z.nodes);
-    let Some(answer) = answer_of(number, ()) else {
-        return Ok(Some(Finding {
-            part: Part::UnknownRefusal,
-            place: usize::from(number),
-        }));
+pub(crate) fn check_read<R: Read>(data: &mut R, z: Shape) -> io::Result<Option<Finding>> {
+    let mut start: [u8; 2 * MOST_NODES + 2] = [0; 2 * MOST_NODES + 2];
+    let mut bytes: [u8; MOST_BYTES] = [0; MOST_BYTES];
+    let Some(start) = read_exactly(data, &mut start, 2 * z.nodes + 2)? else {
+        return Ok(Some(cut()));
     };
-    let is_rest_read = read_exactly(data, &mut case[end..], bytes_after(answer, z))?;
-    let cut = Finding::cut_unless(are_indices_read && is_rest_read, Part::EndOfFile);
-    let (indices, after) = case.split_at(end);
-    Ok(cut.or(rebuilding::check(z, answer, indices, after)))
+    let (indices, number) = start.split_at(2 * z.nodes);
+    let number = decoding::unsigned16_at(number, 0);
+    let Some(expected) = answer_of(number, ()) else {
+        return Ok(Some(Finding::of_part(Part::UnknownRefusal, usize::from(number))));
+    };
+    let Some(bytes) = read_exactly(data, &mut bytes, bytes_after(expected, z))? else {
+        return Ok(Some(cut()));
+    };
+    let case = Case {
+        shape: z,
+        expected,
+        bytes,
+    };
+    Ok(rebuilding::check(case, indices))
 }

@@ -1,37 +1,42 @@
-// The parts of a case that can differ.
-use refusals::Refusal;
+// The calls that a case makes, and the parts of what a call answers and leaves.
 use std::fmt;
 use test_support::reporting;
+use test_support::reporting::Spot;
 
+#[derive(Clone, Copy)]
+pub(crate) enum Call {
+    Nodes,
+    Bounds,
+    Coding,
+    Rebuilding,
+}
+
+impl fmt::Display for Call {
+    fn fmt<W: fmt::Write>(&self, f: &mut fmt::Formatter<W>) -> fmt::Result {
+        f.write_str(match *self {
+            Call::Nodes => "total_nodes",
+            Call::Bounds => "level_bounds",
+            Call::Coding => "coding",
+            Call::Rebuilding => "rebuilding",
+        })
+    }
+}
+
+// For a refusal and a number of nodes the place is the one that was answered.
 #[derive(Clone, Copy)]
 pub(crate) enum Part {
     EndOfFile,
     UnknownRefusal,
     Settings,
+    Refusal,
     Nodes,
-    CodingAnswer,
+    Bound,
     Index,
     Average,
-    AfterAverages,
-    RebuildingAnswer,
     Value,
-    AfterValues,
     Pixel,
-    Bound,
-    RefusedPicture,
-    RefusedWork,
-    NodesAnswer,
-    BoundsAnswer,
-}
-
-pub(crate) type Finding = reporting::Finding<Part>;
-
-// A call that is refused: the place is the number.
-pub(crate) fn refused(part: Part, refusal: Refusal) -> Finding {
-    Finding {
-        part,
-        place: usize::from(u16::from(refusal)),
-    }
+    KeptPixel,
+    KeptWork,
 }
 
 impl fmt::Display for Part {
@@ -40,20 +45,22 @@ impl fmt::Display for Part {
             Part::EndOfFile => "end of file",
             Part::UnknownRefusal => "unknown refusal",
             Part::Settings => "settings",
+            Part::Refusal => "refusal",
             Part::Nodes => "number of nodes",
-            Part::CodingAnswer => "answer of coding",
+            Part::Bound => "bound of slot",
             Part::Index => "index",
             Part::Average => "average",
-            Part::AfterAverages => "work after coding, place",
-            Part::RebuildingAnswer => "answer of rebuilding",
             Part::Value => "rebuilt value",
-            Part::AfterValues => "work after rebuilding, place",
             Part::Pixel => "pixel",
-            Part::Bound => "bound of slot",
-            Part::RefusedPicture => "picture of a refused rebuilding, place",
-            Part::RefusedWork => "work of a refused rebuilding, place",
-            Part::NodesAnswer => "answer of the number of nodes",
-            Part::BoundsAnswer => "answer of the bounds",
+            Part::KeptPixel => "pixel to be kept",
+            Part::KeptWork => "place of the work buffer to be kept",
         })
     }
+}
+
+pub(crate) type Finding = reporting::Finding<Spot<Call, Part>>;
+
+// What is found where the file ends before a case does.
+pub(crate) fn cut() -> Finding {
+    Finding::of_part(Part::EndOfFile, 0)
 }

@@ -1,48 +1,70 @@
 // The cases of the file `pyramid`: a picture; the indices and averages of its coding; the values and the picture that are
 // rebuilt from these indices; the bounds. Both calls are accepted.
-use crate::parts::{Finding, Part, refused};
+ghost use Rattle.std.specs.Prelude.{◌≤◌};
+
+use crate::parts::{Call, Finding, Part, cut};
+use crate::rebuilding::Case;
 use crate::shape::{MOST_BYTES, Shape};
-use crate::{coding, comparing, rebuilding};
+use crate::{coding, rebuilding};
 use std::io;
 use std::io::Read;
+use test_support::answers::compare;
+use test_support::comparing::first_other;
+use test_support::decoding;
 use test_support::reading::{read_exactly, rest};
+use test_support::reporting::of_call;
+use test_support::sizes::compare_size;
 
 // The number of nodes.
 fn check_nodes(z: Shape) -> Option<Finding> {
-    match pyramid::total_nodes(z.settings) {
-        Ok(nodes) if usize::from(nodes) == z.nodes => None,
-        Ok(nodes) => Some(Finding {
-            part: Part::Nodes,
-            place: usize::from(nodes),
-        }),
-        Err(refusal) => Some(refused(Part::NodesAnswer, refusal)),
-    }
+    let got = pyramid::total_nodes(z.settings).map(|nodes| usize::from(nodes));
+    of_call(
+        Call::Nodes,
+        compare_size(Part::Refusal, Part::Nodes, got, Ok(z.nodes)),
+    )
 }
 
-// The bounds.
-fn check_bounds(z: Shape, bounds: &[u8]) -> Option<Finding> {
-    match pyramid::level_bounds(z.settings) {
-        Ok(levels) => Finding::compared(Part::Bound, comparing::bounds(bounds, levels, z.levels)),
-        Err(refusal) => Some(refused(Part::BoundsAnswer, refusal)),
+// The bound of a slot: the bytes hold level N first, and the slots above the depth hold 0.
+fn bound(bytes: &[u8], levels: usize, slot: usize) -> u16
+    requires { levels ≤ 7 }
+{
+    if slot < levels {
+        return decoding::unsigned16_at(bytes, 2 * (levels - 1 - slot));
     }
+    0
+}
+
+// The bounds of all seven slots.
+fn compare_bounds(z: Shape, bytes: &[u8], slots: [u16; 7]) -> Option<Finding> {
+    let slot = first_other(&slots, 0..7, |slot| bound(bytes, z.levels, slot));
+    Finding::compared(Part::Bound, slot)
+}
+
+fn check_bounds(z: Shape, bytes: &[u8]) -> Option<Finding> {
+    let got = pyramid::level_bounds(z.settings);
+    let found = compare(Part::Refusal, got, Ok(()), |slots, ()| {
+        compare_bounds(z, bytes, slots)
+    });
+    of_call(Call::Bounds, found)
 }
 
 // Codes the picture of a case, and rebuilds it.
 fn check_calls(z: Shape, case: &[u8]) -> Option<Finding> {
-    let values = rest(case, z.pixels + 4 * z.nodes);
-    let rebuilt = rebuilding::check(z, Ok(()), rest(case, z.pixels), values);
-    coding::check(z, case).or(rebuilt)
+    let rebuilt = Case {
+        shape: z,
+        expected: Ok(()),
+        bytes: rest(case, z.pixels + 4 * z.nodes),
+    };
+    coding::check(z, case).or(rebuilding::check(rebuilt, rest(case, z.pixels)))
 }
 
 // Reads a case and checks it.
-pub(crate) fn check_read<R: Read>(
-    data: &mut R,
-    z: Shape,
-    case: &mut [u8; MOST_BYTES],
-) -> io::Result<Option<Finding>> {
+pub(crate) fn check_read<R: Read>(data: &mut R, z: Shape) -> io::Result<Option<Finding>> {
+    let mut case: [u8; MOST_BYTES] = [0; MOST_BYTES];
     let bounds = 2 * z.pixels + 8 * z.nodes;
-    let is_read = read_exactly(data, case, bounds + 2 * z.levels)?;
-    let cut = Finding::cut_unless(is_read, Part::EndOfFile);
+    let Some(case) = read_exactly(data, &mut case, bounds + 2 * z.levels)? else {
+        return Ok(Some(cut()));
+    };
     let settings = check_nodes(z).or(check_bounds(z, rest(case, bounds)));
-    Ok(cut.or(settings).or(check_calls(z, case)))
+    Ok(settings.or(check_calls(z, case)))
 }

@@ -1,82 +1,67 @@
 // A rebuilding, accepted or refused.
-use crate::comparing;
-use crate::parts::{Finding, Part};
+use crate::parts::{Call, Finding, Part};
 use crate::shape::{AFTER, MOST_NODES, MOST_PIXELS, MOST_PLACES, Shape};
-use refusals::{Refusal, answer_number};
-use test_support::comparing::first_difference;
+use refusals::Refusal;
+use test_support::answers;
+use test_support::comparing::{first_difference, first_other};
+use test_support::decoding::signed32_at;
 use test_support::fillers::{byte_filler, fill, first_changed, work_filler};
 use test_support::reading::{load_indices, rest};
+use test_support::reporting::of_call;
 
-// What an accepted rebuilding leaves. The bytes hold the values and then the picture.
-fn check_accepted(z: Shape, bytes: &[u8], picture: &[u8], work: &[i32]) -> Option<Finding> {
-    let value = comparing::values(bytes, work, z.nodes);
-    let pixel = first_difference(rest(bytes, 4 * z.nodes), picture, z.pixels);
-    let after = first_changed(work, z.nodes, work_filler);
+// What is rebuilt, the answer, and the bytes of the values, of 32 bits each, and then of the picture.
+#[derive(Clone, Copy)]
+pub(crate) struct Case<'a> {
+    pub shape: Shape,
+    pub expected: Result<(), Refusal>,
+    pub bytes: &'a [u8],
+}
+
+// What an accepted rebuilding leaves.
+fn compare_accepted(c: Case, picture: &[u8], work: &[i32]) -> Option<Finding> {
+    let nodes = c.shape.nodes;
+    let value = first_other(work, 0..nodes, |i| signed32_at(c.bytes, 4 * i));
+    let pixel = first_difference(rest(c.bytes, 4 * nodes), picture);
+    let kept = first_changed(work, nodes, work_filler);
     Finding::compared(Part::Value, value)
         .or(Finding::compared(Part::Pixel, pixel))
-        .or(Finding::compared(Part::AfterValues, after))
+        .or(Finding::compared(Part::KeptWork, kept))
 }
 
 // A refused rebuilding changes nothing.
-fn check_refused(picture: &[u8], work: &[i32]) -> Option<Finding> {
+fn compare_refused(picture: &[u8], work: &[i32]) -> Option<Finding> {
     let pixel = first_changed(picture, 0, byte_filler);
     let place = first_changed(work, 0, work_filler);
-    Finding::compared(Part::RefusedPicture, pixel).or(Finding::compared(Part::RefusedWork, place))
+    Finding::compared(Part::KeptPixel, pixel).or(Finding::compared(Part::KeptWork, place))
 }
 
-// What a rebuilding answers and leaves, to the answer that the case has.
-fn compare(
-    z: Shape,
-    answer: Result<(), Refusal>,
-    got: Result<(), Refusal>,
-    bytes: &[u8],
-    picture: &[u8],
-    work: &[i32],
-) -> Option<Finding> {
-    if got != answer {
-        return Some(Finding {
-            part: Part::RebuildingAnswer,
-            place: usize::from(answer_number(got)),
-        });
-    }
-    match answer {
-        Ok(()) => check_accepted(z, bytes, picture, work),
-        Err(_) => check_refused(picture, work),
+// What a rebuilding leaves.
+fn compare_left(c: Case, picture: &[u8], work: &[i32]) -> Option<Finding> {
+    match c.expected {
+        Ok(()) => compare_accepted(c, picture, work),
+        Err(_) => compare_refused(picture, work),
     }
 }
 
-// Rebuilds over filled buffers. The bytes hold the values and then the picture.
-fn check_lent(
-    z: Shape,
-    answer: Result<(), Refusal>,
-    bytes: &[u8],
-    levels: &[i16],
-    picture: &mut [u8],
-    work: &mut [i32],
-) -> Option<Finding> {
+// Rebuilds over filled buffers.
+fn check_lent(c: Case, levels: &[i16], picture: &mut [u8], work: &mut [i32]) -> Option<Finding> {
     fill(picture, byte_filler);
     fill(work, work_filler);
-    let got = pyramid::rebuilding(z.settings, levels, picture, work);
-    compare(z, answer, got, bytes, picture, work)
+    let got = pyramid::rebuilding(c.shape.settings, levels, picture, work);
+    answers::compare_number(Part::Refusal, got, c.expected).or(compare_left(c, picture, work))
 }
 
-// Rebuilds from indices in bytes, to the answer that the case has.
-pub(crate) fn check(
-    z: Shape,
-    answer: Result<(), Refusal>,
-    indices: &[u8],
-    bytes: &[u8],
-) -> Option<Finding> {
+// Rebuilds from indices in bytes.
+pub(crate) fn check(c: Case, indices: &[u8]) -> Option<Finding> {
     let mut levels: [i16; MOST_NODES] = [0; MOST_NODES];
     let mut picture: [u8; MOST_PIXELS] = [0; MOST_PIXELS];
     let mut work: [i32; MOST_PLACES] = [0; MOST_PLACES];
     load_indices(indices, &mut levels);
-    check_lent(
-        z,
-        answer,
-        bytes,
-        &levels[..z.nodes],
-        &mut picture[..z.pixels],
-        &mut work[..z.nodes + AFTER],
-    )
+    let found = check_lent(
+        c,
+        &levels[..c.shape.nodes],
+        &mut picture[..c.shape.pixels],
+        &mut work[..c.shape.nodes + AFTER],
+    );
+    of_call(Call::Rebuilding, found)
 }

@@ -1,19 +1,10 @@
--- `test_support::faults::Faults::has` meets its contract: a refusal that is passed is not the one, or not in the set. Assumes nothing.
-use Rattle.std.proofs.Common.{sym, ap, ◌∙◌}
-use Rattle.test_support.specs.Definitions.FaultSets.{member}
-use Rattle.refusals.specs.declared.Refusal.TheVariants.{Size}
-use Rattle.test_support.proofs.Choosing.{chosen_in, chosen_out, member_here, member_later}
+-- `test_support::faults::Faults::has` meets its contract: the refusals that pass have the number of the one. Assumes nothing.
+use Rattle.std.proofs.Common.{◌∙◌, ap, eqb, rules}
+use Rattle.std.specs.Option.{is_some}
+use Rattle.refusals.specs.Definitions.Numbers.{number}
+use Rattle.test_support.proofs.Choosing.{found_member, same_number}
 use Rattle.test_support.proofs.faults.Faults.has.Goals as goal
-use Rattle.test_support.proofs.faults.Faults.has.Goals.{else-bits-eq1-via-then-bits-eq1+else-eq, else-bits-eq1-via-else-bits-eq1}
 
-pub returns-then-eq : goal.returns-then-eq
-returns-then-eq c =
-    sym (member_here _ _ _ _ (chosen_in _ _ _ Size c.loop-refusal-test.true c.if-bits-eq1.true) (sym c.eq.ensures ∙ c.if-eq.true)) ∙ c.loop-refusal.invariant
-
-pub loop-refusal-preserved : goal.loop-refusal-preserved
-loop-refusal-preserved c =
-    elim c.else-bits-eq1.branch [
-      | else-bits-eq1-via-then-bits-eq1+else-eq w ↦ sym (member_later _ _ _ _ (chosen_in _ _ _ Size c.loop-refusal-test.true w.if-bits-eq1.true) (sym w.eq.ensures ∙ w.if-eq.false))
-      | else-bits-eq1-via-else-bits-eq1 w ↦ ap (member _) (sym (chosen_out _ _ _ Size c.loop-refusal-test.true w.if-bits-eq1.false))
-    ]
-    ∙ c.loop-refusal.invariant
+pub returns : goal.returns
+returns c =
+    c.is_some.ensures ∙ ap is_some (c.find.ensures (λ r. eqb (number r) (number c.args.fault)) (λ refusal r p. same_number r refusal c.args.fault (search rules))) ∙ found_member c.args.fault _
