@@ -49,14 +49,14 @@ pub struct Settings {
 }
 
 // The columns and rows of a picture or of a level.
-#[derive(Clone, Copy)]
+#[derive(Clone, Copy, PartialEq, Eq)]
 pub struct Dimensions {
     pub columns: u16,
     pub rows: u16,
 }
 
 // The lowest and the highest of some indices and 0.
-#[derive(Clone, Copy)]
+#[derive(Clone, Copy, PartialEq, Eq)]
 pub struct IndexRange {
     pub low: i16,
     pub high: i16,
