@@ -2,15 +2,15 @@
 use std::array;
 use test_support::fillers::{byte_filler, lawful_index, work_filler};
 
-// What a node becomes in a rebuilding.
+// A node as a rebuilding leaves it.
 #[derive(Clone, Copy)]
 pub(crate) struct Node {
     pub value: i32,
     pub pixel: u8,
 }
 
-// An index put at a place of the level buffer before a call. A lawful one is put at a place of level 0, so that a rebuilding changes one
-// node alone by it, which is known; there is no such node where the index is to be refused.
+// An index put at a place of the level buffer before a call. A lawful one is put at a place of level 0, so that in a rebuilding it changes
+// one node alone, this one. An unlawful one is refused, so that there is none.
 #[derive(Clone, Copy)]
 pub(crate) struct Put {
     pub place: usize,

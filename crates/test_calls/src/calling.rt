@@ -43,6 +43,7 @@ fn outcome<F: FnOnce(&mut [u8], &mut [i16], &mut [i32]) -> Result<(), Refusal>>(
     (answer, left)
 }
 
+// Kept: this and `rebuilding` name the two calls, which take the buffers in another order; what both do is `outcome`.
 fn coding(s: Settings, n: Lengths, buffers: Buffers) -> Outcome {
     outcome(n, buffers, |picture, levels, work| {
         pyramid::coding(s, picture, levels, work)

@@ -63,7 +63,7 @@ fn case(faults: Faults) -> Case {
     }
 }
 
-// The first sets of faults, four checks a set, of a call that is told by whether it gives what a case expects.
+// The first sets of faults, four checks a set. `gives` calls with what the case lends, and tells whether that gives what the case expects.
 fn check_first<F: Fn(Case) -> bool>(sets: u16, gives: F) -> Checks
     requires { F.IsAlwaysCallable gives }
 {
@@ -77,12 +77,13 @@ fn check_first<F: Fn(Case) -> bool>(sets: u16, gives: F) -> Checks
     })
 }
 
-// The sets that coding looks for.
+// All sets of the faults that coding looks for.
+// Kept: this and `rebuilding` name the call and the number of its sets; what both do is `check_first`.
 pub(crate) fn coding() -> Checks {
     check_first(512, calling::coding_gives)
 }
 
-// The sets that rebuilding looks for.
+// All sets of the faults that rebuilding looks for.
 pub(crate) fn rebuilding() -> Checks {
     check_first(1024, calling::rebuilding_gives)
 }
