@@ -2,14 +2,30 @@
 use std::array;
 use test_support::fillers::{byte_filler, lawful_index, work_filler};
 
-// An index put at a place of the level buffer before a call. For a rebuilding that is accepted the place is one of level 0, so
-// that the index changes one node alone: its value and its pixel, which are known.
+// A node as a rebuilding leaves it.
+#[derive(Clone, Copy)]
+pub(crate) struct Node {
+    pub value: i32,
+    pub pixel: u8,
+}
+
+// An index put at a place of the level buffer before a call. A lawful one is put at a place of level 0, so that in a rebuilding it changes
+// one node alone, this one. An unlawful one is refused, so that there is none.
 #[derive(Clone, Copy)]
 pub(crate) struct Put {
     pub place: usize,
     pub index: i16,
-    pub value: i32,
-    pub pixel: u8,
+    pub node: Option<Node>,
+}
+
+impl Put {
+    pub(crate) fn unlawful(place: usize, index: i16) -> Self {
+        Put {
+            place,
+            index,
+            node: None,
+        }
+    }
 }
 
 #[derive(Clone, Copy, PartialEq, Eq)]
@@ -36,9 +52,12 @@ impl Buffers {
         }
     }
 
-    pub(crate) fn put(&mut self, put: Option<Put>) {
+    // With an index put in the level buffer.
+    pub(crate) fn with(self, put: Option<Put>) -> Self {
+        let mut buffers = self;
         if let Some(put) = put {
-            set(&mut self.levels, put.place, put.index);
+            set(&mut buffers.levels, put.place, put.index);
         }
+        buffers
     }
 }

@@ -7,43 +7,34 @@ use std::array;
 use test_support::fillers::unlawful_index;
 use test_support::rooms::Lengths;
 
-// The two calls.
-// Kept: they differ in the order of what they take and in what they leave: an enum names them, and a match says each in its place.
+// What a call is lent, and what it is to answer: settings, how many places of each buffer, and an index that is put in the level buffer
+// first.
 #[derive(Clone, Copy)]
-pub(crate) enum Call {
-    Coding,
-    Rebuilding,
+pub(crate) struct Case {
+    pub settings: Settings,
+    pub lengths: Lengths,
+    pub put: Option<Put>,
+    pub answer: Result<(), Refusal>,
 }
 
-// What a call answers.
-pub(crate) fn answer_of(
-    call: Call,
-    s: Settings,
-    picture: &mut [u8],
-    levels: &mut [i16],
-    work: &mut [i32],
-) -> Result<(), Refusal> {
-    match call {
-        Call::Coding => pyramid::coding(s, picture, levels, work),
-        Call::Rebuilding => pyramid::rebuilding(s, levels, picture, work),
-    }
-}
+// What a call answers, and what it leaves in the buffers.
+type Outcome = (Result<(), Refusal>, Buffers);
 
-// What a call answers and leaves that is lent the first places of the buffers.
-// Kept: call, settings, lengths and index are named at each use of `gives`, and are taken one by one here: a struct would only lie between.
-fn outcome(
-    call: Call,
-    s: Settings,
+// The outcome of a call that is lent the first places of the buffers.
+fn outcome<F: FnOnce(&mut [u8], &mut [i16], &mut [i32]) -> Result<(), Refusal>>(
     n: Lengths,
     buffers: Buffers,
-) -> (Result<(), Refusal>, Buffers) {
+    call: F,
+) -> Outcome
+    requires { F.IsAlwaysCallable call }
+{
     let mut picture = buffers.picture;
     let mut levels = buffers.levels;
     let mut work = buffers.work;
     let p = n.picture.min(48);
     let l = n.levels.min(72);
     let w = n.work.min(72);
-    let answer = answer_of(call, s, &mut picture[..p], &mut levels[..l], &mut work[..w]);
+    let answer = call(&mut picture[..p], &mut levels[..l], &mut work[..w]);
     let left = Buffers {
         picture,
         levels,
@@ -52,11 +43,17 @@ fn outcome(
     (answer, left)
 }
 
-// Whether a call is refused so, and leaves every place as it was, the index that was put among them.
-fn is_refused(call: Call, s: Settings, n: Lengths, put: Option<Put>, refusal: Refusal) -> bool {
-    let mut buffers = Buffers::filled();
-    buffers.put(put);
-    outcome(call, s, n, buffers) == (Err(refusal), buffers)
+// Kept: this and `rebuilding` name the two calls, which take the buffers in another order; what both do is `outcome`.
+fn coding(s: Settings, n: Lengths, buffers: Buffers) -> Outcome {
+    outcome(n, buffers, |picture, levels, work| {
+        pyramid::coding(s, picture, levels, work)
+    })
+}
+
+fn rebuilding(s: Settings, n: Lengths, buffers: Buffers) -> Outcome {
+    outcome(n, buffers, |picture, levels, work| {
+        pyramid::rebuilding(s, levels, picture, work)
+    })
 }
 
 // A picture that is 200 everywhere: so is every average, since the weights of a step sum to 1; every difference is 0.
@@ -107,15 +104,24 @@ fn coded(before: Buffers, top: Top, nodes: usize) -> Buffers {
     left
 }
 
-// Whether a coding is accepted.
-fn coding_gives(s: Settings, n: Lengths) -> bool {
-    let buffers = Buffers {
-        picture: [GREY; 48],
-        levels: array::from_fn(unlawful_index),
-        ..Buffers::filled()
-    };
-    let left = coded(buffers, Top::of(s), n.levels);
-    outcome(Call::Coding, s, n, buffers) == (Ok(()), left)
+// Whether a coding answers and leaves what is expected: where it is refused, every place as it was.
+pub(crate) fn coding_gives(case: Case) -> bool {
+    let s = case.settings;
+    let n = case.lengths;
+    match case.answer {
+        Ok(()) => {
+            let before = Buffers {
+                picture: [GREY; 48],
+                levels: array::from_fn(unlawful_index),
+                ..Buffers::filled()
+            };
+            coding(s, n, before) == (Ok(()), coded(before, Top::of(s), n.levels))
+        }
+        Err(refusal) => {
+            let before = Buffers::filled().with(case.put);
+            coding(s, n, before) == (Err(refusal), before)
+        }
+    }
 }
 
 // What a rebuilding leaves: the values and the pixels; in the work buffer nothing more. Level 0 comes last.
@@ -125,41 +131,38 @@ fn rebuilt(before: Buffers, top: Top, n: Lengths, put: Option<Put>) -> Buffers {
     let p = n.picture.min(48);
     left.work[..l].fill(top.value);
     left.picture[..p].fill(top.pixel());
-    if let Some(put) = put {
+    if let Some(
+        Put {
+            place,
+            node: Some(node),
+            ..
+        },
+    ) = put
+    {
         let above = l.saturating_sub(p);
-        set(&mut left.work, put.place, put.value);
-        set(
-            &mut left.picture,
-            put.place.saturating_sub(above),
-            put.pixel,
-        );
+        set(&mut left.work, place, node.value);
+        set(&mut left.picture, place.saturating_sub(above), node.pixel);
     }
     left
 }
 
-// Whether a rebuilding is accepted.
-fn rebuilding_gives(s: Settings, n: Lengths, put: Option<Put>) -> bool {
-    let top = Top::of(s);
-    let mut buffers = Buffers {
-        levels: array::from_fn(|i| top.index_at(i)),
-        ..Buffers::filled()
-    };
-    buffers.put(put);
-    let left = rebuilt(buffers, top, n, put);
-    outcome(Call::Rebuilding, s, n, buffers) == (Ok(()), left)
-}
-
-// Whether a call with buffers of these lengths gives the answer.
-pub(crate) fn gives(
-    call: Call,
-    s: Settings,
-    n: Lengths,
-    put: Option<Put>,
-    answer: Result<(), Refusal>,
-) -> bool {
-    match (answer, call) {
-        (Err(refusal), _) => is_refused(call, s, n, put, refusal),
-        (Ok(()), Call::Coding) => coding_gives(s, n),
-        (Ok(()), Call::Rebuilding) => rebuilding_gives(s, n, put),
+// Whether a rebuilding answers and leaves what is expected: where it is refused, every place as it was, the index that was put among them.
+pub(crate) fn rebuilding_gives(case: Case) -> bool {
+    let s = case.settings;
+    let n = case.lengths;
+    match case.answer {
+        Ok(()) => {
+            let top = Top::of(s);
+            let levels = Buffers {
+                levels: array::from_fn(|i| top.index_at(i)),
+                ..Buffers::filled()
+            };
+            let before = levels.with(case.put);
+            rebuilding(s, n, before) == (Ok(()), rebuilt(before, top, n, case.put))
+        }
+        Err(refusal) => {
+            let before = Buffers::filled().with(case.put);
+            rebuilding(s, n, before) == (Err(refusal), before)
+        }
     }
 }

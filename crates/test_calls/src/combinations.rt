@@ -1,8 +1,8 @@
 // Every set of faults, each fault in four variants: the first of the set is the refusal.
 use crate::base::BASE;
-use crate::buffers::Put;
+use crate::buffers::{Node, Put};
 use crate::calling;
-use crate::calling::Call;
+use crate::calling::Case;
 use refusals::Refusal;
 use test_support::faults::{Faults, check_sets};
 use test_support::reporting::Checks;
@@ -26,27 +26,20 @@ const FAULTS: [Refusal; 10] = [
 const LAWFUL: Put = Put {
     place: 65,
     index: -1365,
-    value: -3895,
-    pixel: 0,
+    node: Some(Node {
+        value: -3895,
+        pixel: 0,
+    }),
 };
 
-// An index times its bin beyond 4,096.
-fn unlawful(place: usize, index: i16) -> Put {
-    Put {
-        place,
-        index,
-        value: 0,
-        pixel: 0,
-    }
-}
-
-// That index, or with its fault one at the first node of level 2, the last of level 0, the first of level 1, the last of level 2.
+// That index, or with its fault one whose product with its bin is beyond 4,096: at the first node of level 2, the last of level 0, the
+// first of level 1, the last of level 2.
 fn put(faults: Faults) -> Put {
     let unlawful = [
-        unlawful(0, 4097),
-        unlawful(65, 1366),
-        unlawful(6, -2049),
-        unlawful(5, -4097),
+        Put::unlawful(0, 4097),
+        Put::unlawful(65, 1366),
+        Put::unlawful(6, -2049),
+        Put::unlawful(5, -4097),
     ];
     faults.choose(Refusal::Index, unlawful, [LAWFUL; 4])
 }
@@ -60,15 +53,32 @@ fn lengths(faults: Faults) -> Lengths {
     }
 }
 
-fn gives_first(call: Call, faults: Faults) -> bool {
-    let s = faults.put_in(BASE);
-    let answer = faults.answer(());
-    calling::gives(call, s, lengths(faults), Some(put(faults)), answer)
+// A call with these faults, which is to answer the first of them.
+fn case(faults: Faults) -> Case {
+    Case {
+        settings: faults.put_in(BASE),
+        lengths: lengths(faults),
+        put: Some(put(faults)),
+        answer: faults.answer(()),
+    }
 }
 
-// The first sets of faults, four checks a set: 512 sets that coding looks for, 1,024 that rebuilding looks for.
-pub(crate) fn all(call: Call, sets: u16) -> Checks {
+// The first sets of faults, four checks a set. `gives` calls with what the case lends, and tells whether that gives what the case expects.
+fn check_first<F: Fn(Case) -> bool>(sets: u16, gives: F) -> Checks
+    requires { F.IsAlwaysCallable gives }
+{
     check_sets(&FAULTS, sets, |faults| {
-        (!gives_first(call, faults)).then_some(())
+        (!gives(case(faults))).then_some(())
     })
+}
+
+// All sets of the faults that coding looks for.
+// Kept: this and `rebuilding` name the call and the number of its sets; what both do is `check_first`.
+pub(crate) fn coding() -> Checks {
+    check_first(512, calling::coding_gives)
+}
+
+// All sets of the faults that rebuilding looks for.
+pub(crate) fn rebuilding() -> Checks {
+    check_first(1024, calling::rebuilding_gives)
 }

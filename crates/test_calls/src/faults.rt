@@ -1,6 +1,6 @@
 // Settings with one fault each, at both ends of every range, in every function that takes settings.
 use crate::base::BASE;
-use crate::calling::Call;
+use crate::calling::Case;
 use crate::{base, calling, shapes};
 use pyramid::Settings;
 use refusals::Refusal;
@@ -43,15 +43,20 @@ fn with_setting(setting: Setting, value: u16) -> Settings {
 pub(crate) fn check(t: &mut Checks, s: Settings, bounds: Result<[u16; 7], Refusal>) {
     let answer = bounds.map(|_| ());
     let nodes = pyramid::total_nodes(s).map(usize::from);
-    let n = Lengths {
-        picture: base::PIXELS,
-        levels: base::NODES,
-        work: base::NODES,
+    let case = Case {
+        settings: s,
+        lengths: Lengths {
+            picture: base::PIXELS,
+            levels: base::NODES,
+            work: base::NODES,
+        },
+        put: None,
+        answer,
     };
     t.check(nodes == answer.map(|()| base::NODES));
     t.check(pyramid::level_bounds(s) == bounds);
-    t.check(calling::gives(Call::Coding, s, n, None, answer));
-    t.check(calling::gives(Call::Rebuilding, s, n, None, answer));
+    t.check(calling::coding_gives(case));
+    t.check(calling::rebuilding_gives(case));
     shapes::check(t, s, answer);
 }
 

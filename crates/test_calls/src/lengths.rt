@@ -1,8 +1,8 @@
 // Buffers of other lengths than the settings ask for. Only the work buffer may be longer.
 use crate::base::BASE;
-use crate::buffers::Put;
+use crate::buffers::{Node, Put};
 use crate::calling;
-use crate::calling::Call;
+use crate::calling::Case;
 use refusals::Refusal;
 use test_support::reporting::Checks;
 use test_support::rooms::Lengths;
@@ -11,8 +11,10 @@ use test_support::rooms::Lengths;
 const PUT: Put = Put {
     place: 21,
     index: 5,
-    value: 215,
-    pixel: 215,
+    node: Some(Node {
+        value: 215,
+        pixel: 215,
+    }),
 };
 
 // The lengths, and the answer to them.
@@ -34,13 +36,22 @@ const ANSWERS: [(usize, usize, usize, Result<(), Refusal>); 11] = [
 pub(crate) fn all() -> Checks {
     let mut t = Checks::new();
     for (picture, levels, work, answer) in ANSWERS {
-        let n = Lengths {
-            picture,
-            levels,
-            work,
+        let coding = Case {
+            settings: BASE,
+            lengths: Lengths {
+                picture,
+                levels,
+                work,
+            },
+            put: None,
+            answer,
         };
-        t.check(calling::gives(Call::Coding, BASE, n, None, answer));
-        t.check(calling::gives(Call::Rebuilding, BASE, n, Some(PUT), answer));
+        let rebuilding = Case {
+            put: Some(PUT),
+            ..coding
+        };
+        t.check(calling::coding_gives(coding));
+        t.check(calling::rebuilding_gives(rebuilding));
     }
     t
 }

@@ -11,7 +11,6 @@ mod pieces;
 mod rounding;
 mod shapes;
 
-use calling::Call;
 use std::io;
 use test_support::reporting::print_checks;
 
@@ -29,12 +28,12 @@ fn main(rt: HostRuntime) -> io::Result<()> {
     print_checks(
         &mut out,
         "combinations of faults, coding",
-        &combinations::all(Call::Coding, 512),
+        &combinations::coding(),
     )?;
     print_checks(
         &mut out,
         "combinations of faults, rebuilding",
-        &combinations::all(Call::Rebuilding, 1024),
+        &combinations::rebuilding(),
     )?;
     Ok(())
 }

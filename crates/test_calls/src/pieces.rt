@@ -1,6 +1,6 @@
 // Worked pieces of document 01.
-use crate::buffers::Put;
-use crate::calling::{Call, answer_of};
+use crate::buffers::{Node, Put};
+use crate::calling::Case;
 use crate::{calling, faults};
 use pyramid::Settings;
 use refusals::Refusal;
@@ -10,7 +10,9 @@ use test_support::fillers::{first_changed, lawful_index, work_filler};
 use test_support::reporting::Checks;
 use test_support::rooms::Lengths;
 
-// Kept: this converts nothing: it leaves out the five bins that no piece has.
+// The settings of a piece: its bins that are not 0 are the first two at most.
+// Kept: no conversion that a `From` could stand for, but the numbers that the pieces differ in: each of its three uses, written as a struct,
+// would repeat five bins of 0.
 fn settings(columns: u16, rows: u16, depth: u16, kernel: u16, first: u16, second: u16) -> Settings {
     Settings {
         columns,
@@ -52,10 +54,10 @@ fn check_rebuilt(
 }
 
 fn check_piece_a_coded(t: &mut Checks) {
-    let mut picture: [u8; 9] = [0, 0, 0, 0, 100, 0, 0, 0, 0];
+    let picture: [u8; 9] = [0, 0, 0, 0, 100, 0, 0, 0, 0];
     let mut levels: [i16; 13] = array::from_fn(lawful_index);
     let mut work: [i32; 14] = array::from_fn(work_filler);
-    let answer = answer_of(Call::Coding, PIECE_A, &mut picture, &mut levels, &mut work);
+    let answer = pyramid::coding(PIECE_A, &picture, &mut levels, &mut work);
     t.check(answer.is_ok());
     t.check(levels == INDICES_A);
     t.check(first_difference(&work, &AVERAGES_A).is_none());
@@ -63,16 +65,9 @@ fn check_piece_a_coded(t: &mut Checks) {
 }
 
 fn check_piece_a_rebuilt(t: &mut Checks) {
-    let mut indices = INDICES_A;
     let mut picture: [u8; 9] = [7; 9];
     let mut work: [i32; 14] = array::from_fn(work_filler);
-    let answer = answer_of(
-        Call::Rebuilding,
-        PIECE_A,
-        &mut picture,
-        &mut indices,
-        &mut work,
-    );
+    let answer = pyramid::rebuilding(PIECE_A, &INDICES_A, &mut picture, &mut work);
     check_rebuilt(
         t,
         answer,
@@ -84,7 +79,8 @@ fn check_piece_a_rebuilt(t: &mut Checks) {
     t.check(first_changed(&work, 13, work_filler).is_none());
 }
 
-// T of A and its bounds.
+// T of A and its bounds. That a call is accepted counts as a check of its own, here and in `check_smallest`: the program's output states the
+// count of checks.
 fn check_piece_a_sizes(t: &mut Checks) {
     let n = pyramid::total_nodes(PIECE_A);
     t.check(n.is_ok());
@@ -108,19 +104,30 @@ fn check_smallest(t: &mut Checks) {
     let n = pyramid::total_nodes(s);
     t.check(n.is_ok());
     t.check(n == Ok(4));
-    let four = Lengths {
-        picture: 4,
-        levels: 4,
-        work: 4,
+    let coding = Case {
+        settings: s,
+        lengths: Lengths {
+            picture: 4,
+            levels: 4,
+            work: 4,
+        },
+        put: None,
+        answer: Ok(()),
     };
     let put = Put {
         place: 3,
         index: 4096,
-        value: 4096,
-        pixel: 255,
+        node: Some(Node {
+            value: 4096,
+            pixel: 255,
+        }),
     };
-    t.check(calling::gives(Call::Coding, s, four, None, Ok(())));
-    t.check(calling::gives(Call::Rebuilding, s, four, Some(put), Ok(())));
+    let rebuilding = Case {
+        put: Some(put),
+        ..coding
+    };
+    t.check(calling::coding_gives(coding));
+    t.check(calling::rebuilding_gives(rebuilding));
 }
 
 // A size and a depth that are refused: C or R of 1 or 130; C = 4, R = 4 or both with N = 1; N = 7, whatever divides, and with C
@@ -168,6 +175,7 @@ const DEEPEST: [(u16, u16, Result<u16, Refusal>); 13] = [
     (65535, 65535, Err(Refusal::Size)),
 ];
 
+// Refusal and depth are a check each: the program's output states the count of checks.
 pub(crate) fn deepest_depths() -> Checks {
     let mut t = Checks::new();
     for (columns, rows, answer) in DEEPEST {
@@ -185,16 +193,10 @@ fn bin_255() -> Settings {
 
 // Rebuilds from one index that is not 0.
 fn check_rebuilt_from(t: &mut Checks, index: i16, value: i32, pixel: u8) {
-    let mut indices: [i16; 4] = [0, 0, 0, index];
+    let indices: [i16; 4] = [0, 0, 0, index];
     let mut picture: [u8; 4] = [7; 4];
     let mut work: [i32; 4] = [7; 4];
-    let answer = answer_of(
-        Call::Rebuilding,
-        bin_255(),
-        &mut picture,
-        &mut indices,
-        &mut work,
-    );
+    let answer = pyramid::rebuilding(bin_255(), &indices, &mut picture, &mut work);
     check_rebuilt(
         t,
         answer,
@@ -207,19 +209,17 @@ fn check_rebuilt_from(t: &mut Checks, index: i16, value: i32, pixel: u8) {
 
 // Index 17 at bin 255 is 4,335.
 fn check_refused_index(t: &mut Checks, place: usize, index: i16) {
-    let n = Lengths {
-        picture: 4,
-        levels: 4,
-        work: 5,
+    let case = Case {
+        settings: bin_255(),
+        lengths: Lengths {
+            picture: 4,
+            levels: 4,
+            work: 5,
+        },
+        put: Some(Put::unlawful(place, index)),
+        answer: Err(Refusal::Index),
     };
-    let put = Put {
-        place,
-        index,
-        value: 0,
-        pixel: 0,
-    };
-    let answer = Err(Refusal::Index);
-    t.check(calling::gives(Call::Rebuilding, bin_255(), n, Some(put), answer));
+    t.check(calling::rebuilding_gives(case));
 }
 
 pub(crate) fn index_limit() -> Checks {

@@ -1,14 +1,12 @@
 // The calls on a shape alone and on a level buffer alone, and the test of a range of indices.
-use pyramid::{IndexRange, Settings};
+use pyramid::{Dimensions, IndexRange, Settings};
 use refusals::Refusal;
 use std::array;
 use test_support::fillers::lawful_index;
 use test_support::reporting::Checks;
 
-// The columns and the rows of a level.
-fn level_sides(s: Settings, level: u16) -> Result<(u16, u16), Refusal> {
-    pyramid::level_size(s, level).map(|size| (size.columns, size.rows))
-}
+// A level, and its columns and rows at 9 by 5, N = 2: none above level 2.
+const SIZES: [(u16, u16, u16); 4] = [(0, 9, 5), (2, 3, 2), (3, 0, 0), (65535, 0, 0)];
 
 // Settings whose shape is 9 by 5, N = 2, or refused. A shape's bins are not looked at.
 pub(crate) fn check(t: &mut Checks, s: Settings, answer: Result<(), Refusal>) {
@@ -19,10 +17,10 @@ pub(crate) fn check(t: &mut Checks, s: Settings, answer: Result<(), Refusal>) {
     };
     t.check(pyramid::check_settings(s) == answer);
     t.check(pyramid::shape_nodes(s) == shape.map(|()| 66));
-    t.check(level_sides(s, 0) == shape.map(|()| (9, 5)));
-    t.check(level_sides(s, 2) == shape.map(|()| (3, 2)));
-    t.check(level_sides(s, 3) == shape.map(|()| (0, 0)));
-    t.check(level_sides(s, 65535) == shape.map(|()| (0, 0)));
+    for (level, columns, rows) in SIZES {
+        let size = Dimensions { columns, rows };
+        t.check(pyramid::level_size(s, level) == shape.map(|()| size));
+    }
     t.check(pyramid::check_levels(s, &levels) == answer);
 }
 
@@ -53,8 +51,8 @@ pub(crate) fn ranges() -> Checks {
         t.check(pyramid::range_ok(IndexRange { low, high }, bin) == answer);
     }
     for (index, low, high) in WIDENED {
-        let w = pyramid::widened(IndexRange { low: -3, high: 5 }, index);
-        t.check(w.low == low && w.high == high);
+        let range = IndexRange { low: -3, high: 5 };
+        t.check(pyramid::widened(range, index) == IndexRange { low, high });
     }
     t
 }

@@ -1,5 +1,5 @@
 // A small file, byte after byte as document 01 has it, and a file of three levels.
-// Kept: refusals are numbers, since the exported functions answer numbers; `places` is the length of a buffer lent beside the file.
+// Kept: refusals are numbers, for the reason at `expected` in `lent`.
 use crate::handed::Handed;
 use crate::lent::{BEFORE, TALL};
 use crate::parts::{Readings, code};
@@ -92,11 +92,13 @@ pub(crate) fn unset() -> Checks {
 }
 
 // What the readers are to hand out of a file with the small one's parts.
-fn expected(e: Result<(), u16>) -> Handed {
+fn expected(e: Result<(), u16>) -> (u16, Handed) {
     handed::expected(e, parts::small(7), SMALL_READINGS)
 }
 
 // Reads a file with so many places lent. That leaves the indices, or all places as they were.
+// Kept: `places` is the length of the level buffer that is lent, not of the file. A file, the places and what is expected stay three arguments,
+// since no other function takes them: `check_both` names its file by the byte that is set anew.
 fn check_reading(t: &mut Checks, file: &[u8], places: usize, e: Result<(), u16>) {
     let before: [i16; 7] = array::from_fn(unlawful_index);
     let mut levels = before;
@@ -165,7 +167,7 @@ pub(crate) fn small() -> Checks {
 fn check_three_read(t: &mut Checks, file: &[u8], written: &[i16; 66]) {
     let mut levels: [i16; 66] = array::from_fn(unlawful_index);
     let got = handed::by_reading(file, &mut levels);
-    let e = handed::accepted(TALL, [code(1, 0x40D0_0000), code(2, 17)]);
+    let e = handed::expected(Ok(()), TALL, [code(1, 0x40D0_0000), code(2, 17)]);
     t.check(got == e);
     t.check(levels == *written);
     t.check(handed::by_checking(file) == e);

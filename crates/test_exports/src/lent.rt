@@ -1,5 +1,7 @@
 // Settings whose numbers all differ, and what the lent numbers hold before a call.
 use pyramid::Settings;
+use test_support::comparing::first_difference;
+use test_support::fillers::{byte_filler, first_changed};
 
 // 5 columns, 9 rows, N = 2, k = 3: levels of 45, 15 and 6 nodes.
 pub(crate) const TALL: Settings = Settings {
@@ -20,39 +22,48 @@ pub(crate) const WIDE: Settings = Settings {
 };
 
 // What a lent number holds before a call; no call leaves it.
-// Kept: no kind, but what a number is before a call: it differs from all that are handed out.
+// Kept: a number as calls hand them out, for no enum to name: it stands for no kind and no refusal, and differs from all that is handed out.
 pub(crate) const BEFORE: u16 = 60001;
 
 // What lent bounds hold before a call.
 pub(crate) const BOUNDS_BEFORE: [u16; 7] = [60011, 60012, 60013, 60014, 60015, 60016, 60017];
 
-// Whether a call answers 0 and leaves the value that is expected, or answers the refusal that is, and leaves what was there before.
-// Kept: a refusal is the number that the exported function answers.
-pub(crate) fn is_left<T: PartialEq + Copy>(
-    answer: u16,
-    left: T,
-    before: T,
-    e: Result<T, u16>,
-) -> bool {
+// What a call answers, and what it leaves in the place that is lent to it.
+pub(crate) fn answered<T: Copy, F: FnOnce(&mut T) -> u16>(before: T, call: F) -> (u16, T)
+    requires { F.IsAlwaysCallable call }
+{
+    let mut left = before;
+    let answer = call(&mut left);
+    (answer, left)
+}
+
+// What a call is to answer and to leave: 0 and a value, or a refusal and what was there before.
+// Kept: refusals are numbers in this crate: documents 01 and 02 promise them to callers in C, and how a `Refusal` becomes its number is code
+// that is tested here, so the numbers are written by hand from the documents.
+pub(crate) fn expected<T: Copy>(before: T, e: Result<T, u16>) -> (u16, T) {
     match e {
-        Ok(value) => answer == 0 && left == value,
-        Err(refusal) => answer == refusal && left == before,
+        Ok(value) => (0, value),
+        Err(refusal) => (refusal, before),
     }
 }
 
-// Settings with one fault, which the refusal names: a side of 130, a depth of 7, columns or rows that 2 to the depth does not divide less 1, a
-// kernel, or the bin of level 0. With 0 they are lawful.
-// Kept: the numbers of document 01, since the exported functions answer numbers.
-pub(crate) fn faulty(s: Settings, refusal: u16) -> Settings {
-    let mut u = s;
-    match refusal {
-        1 => u.rows = 130,
-        13 => u.depth = 7,
-        14 => u.columns = 8,
-        15 => u.rows = 8,
-        2 => u.kernel = 7,
-        3 => u.bins[0] = 0,
-        _ => {}
-    }
-    u
+// Whether a buffer of fillers holds these bytes at its start after a call, and its fillers after them.
+pub(crate) fn holds(buffer: &[u8], bytes: &[u8]) -> bool {
+    let n = bytes.len();
+    first_difference(buffer, bytes).is_none() && first_changed(buffer, n, byte_filler).is_none()
+}
+
+// Lawful settings with one fault each, and its refusal: a side of 130, a depth of 7, columns or rows that 2 to the depth does not divide
+// less 1, a kernel, and the bin of level 0.
+pub(crate) fn faulty(s: Settings) -> [(Settings, u16); 6] {
+    let mut bins = s.bins;
+    bins[0] = 0;
+    [
+        (Settings { rows: 130, ..s }, 1),
+        (Settings { depth: 7, ..s }, 13),
+        (Settings { columns: 8, ..s }, 14),
+        (Settings { rows: 8, ..s }, 15),
+        (Settings { kernel: 7, ..s }, 2),
+        (Settings { bins, ..s }, 3),
+    ]
 }

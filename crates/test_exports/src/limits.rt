@@ -1,5 +1,5 @@
 // The limits of indices and readings, in the writer and in both readers: a file of 3 by 2, N = 0, k = 5 with one index that is not 0.
-// Kept: refusals are numbers, since the exported functions answer numbers.
+// Kept: refusals are numbers, for the reason at `expected` in `lent`.
 use crate::handed::Handed;
 use crate::parts::{Readings, code};
 use crate::writing::Contents;
@@ -41,7 +41,7 @@ fn levels_of(put: Put) -> [i16; 6] {
 }
 
 // What both readers hand out, and what the reader leaves in the level buffer: the indices, or all places as they were.
-fn check_read(t: &mut Checks, file: &[u8; 40], e: Handed, indices: Result<[i16; 6], u16>) {
+fn check_read(t: &mut Checks, file: &[u8; 40], e: (u16, Handed), indices: Result<[i16; 6], u16>) {
     let before: [i16; 6] = array::from_fn(unlawful_index);
     let mut levels = before;
     t.check(handed::by_checking(file) == e);
@@ -63,7 +63,8 @@ fn check(t: &mut Checks, bin: u16, r: Readings, put: Put, e: Result<(), u16>) {
     check_read(t, &file, handed::expected(e, s, r), e.map(|()| levels));
 }
 
-// A bin, a place, the index there and its word, and whether it is refused: index times bin of exactly 4,096 and -4,096, and beyond.
+// A bin, a place, the index there and its word, and what is expected: accepted are index times bin of exactly 4,096 and -4,096, refused those
+// beyond.
 const INDICES: [(u16, usize, i16, u16, Result<(), u16>); 14] = [
     (1, 0, 4096, 0x1000, Ok(())),
     (1, 1, -4096, 0xF000, Ok(())),
@@ -90,7 +91,7 @@ pub(crate) fn indices() -> Checks {
     t
 }
 
-// A kind, a number and whether they are refused: not fitted with 0 and other numbers; 0 and 100 percent, the smallest, those next above
+// A kind, a number and what is expected: not fitted with 0 and other numbers; 0 and 100 percent, the smallest, those next above
 // 100 and below 0, an infinity, a NaN; fault codes of 1 to 255; other kinds.
 const READINGS: [(u8, u32, Result<(), u16>); 19] = [
     (0, 0, Ok(())),

@@ -1,7 +1,6 @@
 // The calls that hand out numbers of a size or of settings. What they hand out is worked out by hand from document 01.
-// Kept: the exported functions answer numbers and take settings one by one. What the three checks share is `is_left`; one function for them
-// would be lent each call as a closure, which spreads the settings as the checks do now, and would save of each the line `let mut` alone.
-use crate::lent::{BEFORE, BOUNDS_BEFORE, TALL, WIDE, faulty, is_left};
+// Kept: refusals are numbers, for the reason at `expected` in `lent`.
+use crate::lent::{BEFORE, BOUNDS_BEFORE, TALL, WIDE, answered, expected, faulty};
 use pyramid::Settings;
 use test_support::reporting::Checks;
 
@@ -19,42 +18,37 @@ const DEPTHS: [(u16, u16, Result<u16, u16>); 7] = [
 pub(crate) fn depths() -> Checks {
     let mut t = Checks::new();
     for (columns, rows, e) in DEPTHS {
-        let mut depth = BEFORE;
-        let answer = lepsarvu::lepsarvu_deepest_depth(columns, rows, &mut depth);
-        t.check(is_left(answer, depth, BEFORE, e));
+        let got = answered(BEFORE, |depth| {
+            lepsarvu::lepsarvu_deepest_depth(columns, rows, depth)
+        });
+        t.check(got == expected(BEFORE, e));
     }
     t
 }
 
 // The number that the call leaves, or the refusal.
+// Kept: this, `check_size` and `check_bounds` are one call each, to which each hands the same settings one by one, as C does; what they share
+// is `answered` and `expected`, and what is expected has a type of its own in each.
 fn check_nodes(t: &mut Checks, s: Settings, e: Result<u16, u16>) {
-    let mut nodes = BEFORE;
-    let answer = lepsarvu::lepsarvu_total_nodes(
-        s.columns, s.rows, s.depth, s.kernel, &s.bins, &mut nodes,
-    );
-    t.check(is_left(answer, nodes, BEFORE, e));
+    let got = answered(BEFORE, |nodes| {
+        lepsarvu::lepsarvu_total_nodes(s.columns, s.rows, s.depth, s.kernel, &s.bins, nodes)
+    });
+    t.check(got == expected(BEFORE, e));
 }
 
 fn check_size(t: &mut Checks, s: Settings, e: Result<usize, u16>) {
     let before = usize::from(BEFORE);
-    let mut size = before;
-    let answer = lepsarvu::lepsarvu_file_size(
-        s.columns, s.rows, s.depth, s.kernel, &s.bins, &mut size,
-    );
-    t.check(is_left(answer, size, before, e));
+    let got = answered(before, |size| {
+        lepsarvu::lepsarvu_file_size(s.columns, s.rows, s.depth, s.kernel, &s.bins, size)
+    });
+    t.check(got == expected(before, e));
 }
 
 fn check_bounds(t: &mut Checks, s: Settings, e: Result<[u16; 7], u16>) {
-    let mut bounds = BOUNDS_BEFORE;
-    let answer = lepsarvu::lepsarvu_level_bounds(
-        s.columns,
-        s.rows,
-        s.depth,
-        s.kernel,
-        &s.bins,
-        &mut bounds,
-    );
-    t.check(is_left(answer, bounds, BOUNDS_BEFORE, e));
+    let got = answered(BOUNDS_BEFORE, |bounds| {
+        lepsarvu::lepsarvu_level_bounds(s.columns, s.rows, s.depth, s.kernel, &s.bins, bounds)
+    });
+    t.check(got == expected(BOUNDS_BEFORE, e));
 }
 
 // T and the bytes of a file: 24 + 4 times 3 + 2 times 66, and 24 + 4 times 7 + 2 times 11,310.
@@ -89,8 +83,7 @@ pub(crate) fn level_bounds() -> Checks {
 pub(crate) fn refusals() -> Checks {
     let mut t = Checks::new();
     for lawful in [TALL, WIDE] {
-        for refusal in [1, 13, 14, 15, 2, 3] {
-            let s = faulty(lawful, refusal);
+        for (s, refusal) in faulty(lawful) {
             check_nodes(&mut t, s, Err(refusal));
             check_size(&mut t, s, Err(refusal));
             check_bounds(&mut t, s, Err(refusal));

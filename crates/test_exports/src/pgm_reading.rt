@@ -1,35 +1,39 @@
 // PGM files that are read. What their headers mean is document 02's (P2).
-// Kept: refusals are numbers, since the exported functions answer numbers; `places` is the length of a buffer lent beside the file.
-use crate::lent::{BEFORE, is_left};
-use crate::pgm_writing::{Picture, holds};
+// Kept: refusals are numbers, for the reason at `expected` in `lent`.
+// Kept: `places` is the length of the picture that is lent, not of the file. A file, the places and what is expected stay three arguments:
+// `check_both` hands them on once, and a struct would have to be named, with its fields, at each of its five calls.
+use crate::lent::{BEFORE, answered, expected, holds};
+use crate::pgm_writing::Picture;
 use lepsarvu::pictures;
-use test_support::fillers::{byte_filler, fill};
+use std::array;
+use test_support::fillers::byte_filler;
 use test_support::reporting::Checks;
 
-// Whether a reader answers and leaves the sides of a picture, or is refused and leaves them as they were.
-fn are_sides(answer: u16, columns: u16, rows: u16, e: Result<Picture, u16>) -> bool {
-    let sides = e.map(|p| (p.columns, p.rows));
-    is_left(answer, (columns, rows), (BEFORE, BEFORE), sides)
+// The places for the columns and the rows, before a call.
+const SIDES_BEFORE: (u16, u16) = (BEFORE, BEFORE);
+
+// What a reader is to answer, and to leave as the columns and the rows.
+fn sides(e: Result<Picture, u16>) -> (u16, (u16, u16)) {
+    expected(SIDES_BEFORE, e.map(|p| (p.columns, p.rows)))
 }
 
 // A reading into so many places of a filled buffer. A refused one puts no pixels there.
 fn check_reading(t: &mut Checks, file: &[u8], places: usize, e: Result<Picture, u16>) {
-    let mut picture: [u8; 40] = [0; 40];
-    let mut columns = BEFORE;
-    let mut rows = BEFORE;
-    fill(&mut picture, byte_filler);
-    let n = places.min(40);
-    let answer = pictures::lepsarvu_read_pgm(file, &mut picture[..n], &mut columns, &mut rows);
-    t.check(are_sides(answer, columns, rows, e));
+    let mut picture: [u8; 40] = array::from_fn(byte_filler);
+    let lent = &mut picture[..places.min(40)];
+    let got = answered(SIDES_BEFORE, |(columns, rows)| {
+        pictures::lepsarvu_read_pgm(file, lent, columns, rows)
+    });
+    t.check(got == sides(e));
     t.check(holds(&picture, e.map_or(&[], |p| p.pixels)));
 }
 
 // The reader that is lent no picture, then the other.
 fn check_both(t: &mut Checks, file: &[u8], places: usize, e: Result<Picture, u16>) {
-    let mut columns = BEFORE;
-    let mut rows = BEFORE;
-    let answer = pictures::lepsarvu_check_pgm(file, &mut columns, &mut rows);
-    t.check(are_sides(answer, columns, rows, e));
+    let got = answered(SIDES_BEFORE, |(columns, rows)| {
+        pictures::lepsarvu_check_pgm(file, columns, rows)
+    });
+    t.check(got == sides(e));
     check_reading(t, file, places, e);
 }
 

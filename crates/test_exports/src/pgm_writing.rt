@@ -1,9 +1,9 @@
 // PGM pictures that are written, byte after byte as document 02 has them (P2).
-// Kept: refusals are numbers, since the exported functions answer numbers.
-use crate::lent::{BEFORE, is_left};
+// Kept: refusals are numbers, for the reason at `expected` in `lent`.
+use crate::lent::{BEFORE, answered, expected, holds};
 use lepsarvu::pictures;
-use test_support::comparing::first_difference;
-use test_support::fillers::{byte_filler, fill, first_changed};
+use std::array;
+use test_support::fillers::byte_filler;
 use test_support::reporting::Checks;
 
 // Columns and rows; the size that the call leaves, which is 9 and the digits of both sides and the pixels, or the refusal.
@@ -24,17 +24,12 @@ pub(crate) fn sizes() -> Checks {
     let mut t = Checks::new();
     for (columns, rows, e) in SIZES {
         let before = usize::from(BEFORE);
-        let mut size = before;
-        let answer = pictures::lepsarvu_pgm_size(columns, rows, &mut size);
-        t.check(is_left(answer, size, before, e));
+        let got = answered(before, |size| {
+            pictures::lepsarvu_pgm_size(columns, rows, size)
+        });
+        t.check(got == expected(before, e));
     }
     t
-}
-
-// Whether a filled buffer starts with these bytes, and keeps its fillers after them. No byte that is tried is the filler of its place.
-pub(crate) fn holds(buffer: &[u8; 40], bytes: &[u8]) -> bool {
-    let n = bytes.len();
-    first_difference(buffer, bytes).is_none() && first_changed(buffer, n, byte_filler).is_none()
 }
 
 // A picture of so many columns and rows.
@@ -48,19 +43,13 @@ pub(crate) struct Picture<'a> {
 // A writing into so many bytes of a filled buffer, and what it leaves: the file and its size; a refused one leaves both as they were.
 pub(crate) fn check(t: &mut Checks, p: Picture, room: usize, e: Result<&[u8], u16>) {
     let before = usize::from(BEFORE);
-    let mut out: [u8; 40] = [0; 40];
-    let mut size = before;
-    fill(&mut out, byte_filler);
-    let n = room.min(40);
-    let answer = pictures::lepsarvu_write_pgm(
-        p.columns,
-        p.rows,
-        p.pixels,
-        &mut out[..n],
-        &mut size,
-    );
-    let length = e.map(|file| file.len());
-    t.check(is_left(answer, size, before, length));
+    let mut out: [u8; 40] = array::from_fn(byte_filler);
+    let lent = &mut out[..room.min(40)];
+    let got = answered(before, |size| {
+        pictures::lepsarvu_write_pgm(p.columns, p.rows, p.pixels, lent, size)
+    });
+    let size = e.map(|file| file.len());
+    t.check(got == expected(before, size));
     t.check(holds(&out, e.unwrap_or(&[])));
 }
 

@@ -1,7 +1,5 @@
 // Coding and rebuilding that are refused, with what they leave: all as it was.
-// Kept: refusals are numbers, since the exported functions answer numbers. One function for both calls would hold all three buffers, be lent
-// the call as a closure, and compare what the other call only reads: coding reads the picture and writes the levels, rebuilding writes the
-// picture and reads the levels.
+// Kept: refusals are numbers, for the reason at `expected` in `lent`.
 use crate::lent::faulty;
 use crate::pictures::{NODES, PIXELS, SETTINGS};
 use pyramid::Settings;
@@ -10,56 +8,76 @@ use test_support::fillers::{byte_filler, lawful_index, unlawful_index, work_fill
 use test_support::reporting::Checks;
 use test_support::rooms::Lengths;
 
-fn check_coding(t: &mut Checks, s: Settings, n: Lengths, refusal: u16) {
-    let picture: [u8; 16] = [200; 16];
-    let mut levels: [i16; 24] = array::from_fn(lawful_index);
-    let mut work: [i32; 24] = array::from_fn(work_filler);
-    let (levels_before, work_before) = (levels, work);
-    let p = n.picture.min(16);
-    let l = n.levels.min(24);
-    let w = n.work.min(24);
-    let answer = lepsarvu::lepsarvu_coding(
-        s.columns,
-        s.rows,
-        s.depth,
-        s.kernel,
-        &s.bins,
-        &picture[..p],
-        &mut levels[..l],
-        &mut work[..w],
-    );
-    t.check(answer == refusal);
-    t.check(levels == levels_before);
-    t.check(work == work_before);
+// What is refused: settings, how many places of each buffer are lent, and the refusal.
+#[derive(Clone, Copy)]
+struct Refused {
+    settings: Settings,
+    lengths: Lengths,
+    refusal: u16,
+}
+
+// The buffers that are lent.
+#[derive(Clone, Copy)]
+struct Buffers {
+    picture: [u8; 16],
+    levels: [i16; 24],
+    work: [i32; 24],
+}
+
+// A call that is lent the first places of the buffers: its answer, the picture and the levels after it, and the work buffer.
+fn check<F: FnOnce(&mut [u8], &mut [i16], &mut [i32]) -> u16>(
+    t: &mut Checks,
+    r: Refused,
+    before: Buffers,
+    call: F,
+)
+    requires { F.IsAlwaysCallable call }
+{
+    let mut picture = before.picture;
+    let mut levels = before.levels;
+    let mut work = before.work;
+    let p = r.lengths.picture.min(16);
+    let l = r.lengths.levels.min(24);
+    let w = r.lengths.work.min(24);
+    let answer = call(&mut picture[..p], &mut levels[..l], &mut work[..w]);
+    t.check(answer == r.refusal);
+    t.check(picture == before.picture && levels == before.levels);
+    t.check(work == before.work);
+}
+
+fn check_coding(t: &mut Checks, r: Refused) {
+    let s = r.settings;
+    let before = Buffers {
+        picture: [200; 16],
+        levels: array::from_fn(lawful_index),
+        work: array::from_fn(work_filler),
+    };
+    check(t, r, before, |picture, levels, work| {
+        lepsarvu::lepsarvu_coding(
+            s.columns, s.rows, s.depth, s.kernel, &s.bins, picture, levels, work,
+        )
+    });
 }
 
 // With indices that are lawful, or with none that is: their refusal, 11, comes last.
-fn check_rebuilding(t: &mut Checks, s: Settings, n: Lengths, levels: [i16; 24], refusal: u16) {
-    let mut picture: [u8; 16] = array::from_fn(byte_filler);
-    let mut work: [i32; 24] = array::from_fn(work_filler);
-    let (picture_before, work_before) = (picture, work);
-    let p = n.picture.min(16);
-    let l = n.levels.min(24);
-    let w = n.work.min(24);
-    let answer = lepsarvu::lepsarvu_rebuilding(
-        s.columns,
-        s.rows,
-        s.depth,
-        s.kernel,
-        &s.bins,
-        &levels[..l],
-        &mut picture[..p],
-        &mut work[..w],
-    );
-    t.check(answer == refusal);
-    t.check(picture == picture_before);
-    t.check(work == work_before);
+fn check_rebuilding(t: &mut Checks, r: Refused, levels: [i16; 24]) {
+    let s = r.settings;
+    let before = Buffers {
+        picture: array::from_fn(byte_filler),
+        levels,
+        work: array::from_fn(work_filler),
+    };
+    check(t, r, before, |picture, levels, work| {
+        lepsarvu::lepsarvu_rebuilding(
+            s.columns, s.rows, s.depth, s.kernel, &s.bins, levels, picture, work,
+        )
+    });
 }
 
-fn check_both(t: &mut Checks, s: Settings, n: Lengths, refusal: u16) {
-    check_coding(t, s, n, refusal);
-    check_rebuilding(t, s, n, array::from_fn(lawful_index), refusal);
-    check_rebuilding(t, s, n, array::from_fn(unlawful_index), refusal);
+fn check_both(t: &mut Checks, r: Refused) {
+    check_coding(t, r);
+    check_rebuilding(t, r, array::from_fn(lawful_index));
+    check_rebuilding(t, r, array::from_fn(unlawful_index));
 }
 
 // Other lengths of the picture, the levels and the work buffer, and the refusal of them.
@@ -78,17 +96,31 @@ pub(crate) fn all() -> Checks {
         levels: NODES,
         work: NODES + 1,
     };
-    for refusal in [1, 13, 14, 15, 2, 3] {
-        check_both(&mut t, faulty(SETTINGS, refusal), lawful, refusal);
+    for (settings, refusal) in faulty(SETTINGS) {
+        let r = Refused {
+            settings,
+            lengths: lawful,
+            refusal,
+        };
+        check_both(&mut t, r);
     }
     for (picture, levels, work, refusal) in LENGTHS {
-        let n = Lengths {
-            picture,
-            levels,
-            work,
+        let r = Refused {
+            settings: SETTINGS,
+            lengths: Lengths {
+                picture,
+                levels,
+                work,
+            },
+            refusal,
         };
-        check_both(&mut t, SETTINGS, n, refusal);
+        check_both(&mut t, r);
     }
-    check_rebuilding(&mut t, SETTINGS, lawful, array::from_fn(unlawful_index), 11);
+    let indices = Refused {
+        settings: SETTINGS,
+        lengths: lawful,
+        refusal: 11,
+    };
+    check_rebuilding(&mut t, indices, array::from_fn(unlawful_index));
     t
 }

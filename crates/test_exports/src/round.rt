@@ -34,9 +34,9 @@ fn check_shown(t: &mut Checks, file: &[u8; 40]) {
     let mut levels: [i16; 6] = [0; 6];
     let mut pixels: [u8; 6] = [0; 6];
     let mut work: [i32; 6] = [0; 6];
-    let got = handed::by_reading(file, &mut levels);
+    let (read, got) = handed::by_reading(file, &mut levels);
     let [columns, rows, depth, kernel] = got.shape;
-    let answer = lepsarvu::lepsarvu_rebuilding(
+    let rebuilt = lepsarvu::lepsarvu_rebuilding(
         columns,
         rows,
         depth,
@@ -46,8 +46,8 @@ fn check_shown(t: &mut Checks, file: &[u8; 40]) {
         &mut pixels,
         &mut work,
     );
-    t.check(got.answer == 0);
-    t.check(answer == 0);
+    t.check(read == 0);
+    t.check(rebuilt == 0);
     let shown = Picture {
         columns,
         rows,
