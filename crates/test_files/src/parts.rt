@@ -73,6 +73,7 @@ impl fmt::Display for Part {
 pub(crate) type Finding = reporting::Finding<Spot<Call, Part>>;
 
 // What is found where the vectors end before a case does.
+// Kept beside test_pgm's: each names a part of its own.
 pub(crate) fn cut() -> Finding {
     Finding::of_part(Part::EndOfVectors, 0)
 }
