@@ -7,7 +7,7 @@ use std::io;
 use std::io::Read;
 use test_support::decoding;
 use test_support::numbered::answer_of;
-use test_support::reading::{check_cases, read_exactly};
+use test_support::reading::{check_cases, read_part};
 use test_support::reporting::Tally;
 
 // How a case starts: the answer of the reader that is lent no level buffer, or what is found where no refusal has its number; T, where
@@ -48,11 +48,11 @@ fn check_accepted<R: Read>(
 ) -> io::Result<Option<Finding>> {
     let mut said: [u8; 32] = [0; 32];
     let mut indices: [u8; 44718] = [0; 44718];
-    let Some(said) = read_exactly(data, &mut said, 32)? else {
+    let Some(said) = read_part(data, &mut said, 32)? else {
         return Ok(Some(cut()));
     };
     let length = 2 * usize::from(nodes.unwrap_or(0));
-    let Some(indices) = read_exactly(data, &mut indices, length)? else {
+    let Some(indices) = read_part(data, &mut indices, length)? else {
         return Ok(Some(cut()));
     };
     let expected = Ok(answers::held_in(said, indices));
@@ -78,7 +78,7 @@ const MOST: usize = 65594;
 // Reads the case that starts so.
 fn check_case<R: Read>(data: &mut R, h: Head) -> io::Result<Option<Finding>> {
     let mut file: [u8; MOST] = [0; MOST];
-    let Some(file) = read_exactly(data, &mut file, h.length)? else {
+    let Some(file) = read_part(data, &mut file, h.length)? else {
         return Ok(Some(cut()));
     };
     match h.answer {

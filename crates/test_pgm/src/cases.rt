@@ -10,7 +10,7 @@ use std::io;
 use std::io::Read;
 use test_support::decoding;
 use test_support::numbered::answer_of;
-use test_support::reading::{check_cases, read_exactly};
+use test_support::reading::{check_cases, read_part};
 use test_support::reporting::Tally;
 
 // How a case starts: the answer of the readers, or what is found where no refusal has its number; the file's length.
@@ -50,11 +50,11 @@ fn check_single<R: Read>(
 ) -> io::Result<Option<Finding>> {
     let mut length: [u8; 4] = [0; 4];
     let mut single: [u8; MOST_SINGLE] = [0; MOST_SINGLE];
-    let Some(length) = read_exactly(data, &mut length, 4)? else {
+    let Some(length) = read_part(data, &mut length, 4)? else {
         return Ok(Some(cut()));
     };
     let n = decoding::unsigned32_at(length, 0) as usize;
-    let Some(single) = read_exactly(data, &mut single, n)? else {
+    let Some(single) = read_part(data, &mut single, n)? else {
         return Ok(Some(cut()));
     };
     Ok(check_file(size, file, more, single))
@@ -68,7 +68,7 @@ fn check_picture<R: Read>(
 ) -> io::Result<Option<Finding>> {
     let mut pixels: [u8; MOST_PLACES] = [0; MOST_PLACES];
     let n = usize::from(size.columns) * usize::from(size.rows);
-    if read_exactly(data, &mut pixels, n)?.is_none() {
+    if read_part(data, &mut pixels, n)?.is_none() {
         return Ok(Some(cut()));
     }
     check_single(data, size, file, &pixels[..n.min(MOST_PIXELS) + 1])
@@ -77,7 +77,7 @@ fn check_picture<R: Read>(
 // Reads what the case says of a file that is accepted: its sides, its picture and its single form.
 fn check_accepted<R: Read>(data: &mut R, file: &[u8]) -> io::Result<Option<Finding>> {
     let mut sides: [u8; 4] = [0; 4];
-    let Some(sides) = read_exactly(data, &mut sides, 4)? else {
+    let Some(sides) = read_part(data, &mut sides, 4)? else {
         return Ok(Some(cut()));
     };
     let size = Dimensions {
@@ -93,7 +93,7 @@ const MOST: usize = 65551;
 // Reads the case that starts so. Of a file that is refused it says nothing more.
 fn check_case<R: Read>(data: &mut R, h: Head) -> io::Result<Option<Finding>> {
     let mut file: [u8; MOST] = [0; MOST];
-    let Some(file) = read_exactly(data, &mut file, h.length)? else {
+    let Some(file) = read_part(data, &mut file, h.length)? else {
         return Ok(Some(cut()));
     };
     match h.answer {

@@ -28,8 +28,24 @@ pub fn read_full<R: Read>(source: &mut R, bytes: &mut [u8]) -> io::Result<usize>
     Ok(n)
 }
 
-// Reads n bytes to the start of a buffer, and answers them; nothing where the data ends before, or the buffer.
-pub fn read_exactly<'a, R: Read>(
+// Reads n bytes to the start of a buffer; false where the data ends before, or the buffer, which then is not changed.
+// Kept: n is read from the data, and may be more than the buffer holds; and a flag beside the buffer, since this says what the buffer holds
+// where the bytes are not all there, which `read_part` cannot say of a buffer that its answer borrows.
+pub fn read_exactly<R: Read>(source: &mut R, bytes: &mut [u8], n: usize) -> io::Result<bool>
+    ensures length { length bytes.new ≡ length bytes.old }
+    ensures room { IfOk result (λ is_read. is_read ≡ true → n ≤ length bytes.old) }
+    ensures kept { length bytes.old < n → bytes.new ≡ bytes.old }
+    ensures taken { IfOk result (λ is_read. is_read ≡ true → Consumes (R.remaining source.old) (R.remaining source.new) (take n bytes.new)) }
+    ensures end { IfOk result (λ is_read. is_read ≡ false → n ≤ length bytes.old → IsAtEnd (R.remaining source.new)) }
+{
+    if bytes.len() < n {
+        return Ok(false);
+    }
+    Ok(read_full(source, &mut bytes[..n])? == n)
+}
+
+// The same of a buffer for these bytes alone: they are the answer, or nothing where they are not all there.
+pub fn read_part<'a, R: Read>(
     source: &mut R,
     bytes: &'a mut [u8],
     n: usize,
@@ -38,14 +54,11 @@ pub fn read_exactly<'a, R: Read>(
     ensures end { IfOk result (λ read. read ≡ None → n ≤ length bytes.old → IsAtEnd (R.remaining source.new)) }
     ensures room { IfOk result (λ read. IfSome read (λ part. n ≤ length bytes.old)) }
 {
-    if bytes.len() < n {
-        return Ok(None);
+    if read_exactly(source, bytes, n)? {
+        Ok(Some(&bytes[..n]))
+    } else {
+        Ok(None)
     }
-    let part = &mut bytes[..n];
-    if read_full(source, part)? < n {
-        return Ok(None);
-    }
-    Ok(Some(part))
 }
 
 // What the start of the next case is read to be: whole; nothing, since no case is left; or cut.

@@ -9,7 +9,7 @@ use std::io;
 use std::io::Read;
 use test_support::decoding;
 use test_support::numbered::answer_of;
-use test_support::reading::read_exactly;
+use test_support::reading::read_part;
 
 // The bytes after the answer.
 fn bytes_after(answer: Result<(), Refusal>, z: Shape) -> usize {
@@ -23,7 +23,7 @@ fn bytes_after(answer: Result<(), Refusal>, z: Shape) -> usize {
 pub(crate) fn check_read<R: Read>(data: &mut R, z: Shape) -> io::Result<Option<Finding>> {
     let mut start: [u8; 2 * MOST_NODES + 2] = [0; 2 * MOST_NODES + 2];
     let mut bytes: [u8; MOST_BYTES] = [0; MOST_BYTES];
-    let Some(start) = read_exactly(data, &mut start, 2 * z.nodes + 2)? else {
+    let Some(start) = read_part(data, &mut start, 2 * z.nodes + 2)? else {
         return Ok(Some(cut()));
     };
     let (indices, number) = start.split_at(2 * z.nodes);
@@ -31,7 +31,7 @@ pub(crate) fn check_read<R: Read>(data: &mut R, z: Shape) -> io::Result<Option<F
     let Some(expected) = answer_of(number, ()) else {
         return Ok(Some(Finding::of_part(Part::UnknownRefusal, usize::from(number))));
     };
-    let Some(bytes) = read_exactly(data, &mut bytes, bytes_after(expected, z))? else {
+    let Some(bytes) = read_part(data, &mut bytes, bytes_after(expected, z))? else {
         return Ok(Some(cut()));
     };
     let case = Case {
