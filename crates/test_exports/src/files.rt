@@ -181,7 +181,7 @@ const THREE_START: &[u8] =
 fn has_level(section: &[u8], levels: &[i16]) -> bool {
     let n = levels.len();
     usize::from(decoding::unsigned16_at(section, 0)) == n
-        && indices(rest(section, 2), levels).is_none()
+        && indices(rest(section, 2), levels, levels.len()).is_none()
 }
 
 // What the writer leaves, and what the readers make of it.

@@ -26,7 +26,7 @@ pub(crate) fn check_checking(c: Case) -> Option<Finding> {
 // What a reader leaves in the level buffer: an accepted file its indices, a refused one nothing.
 fn compare_levels(c: Case, levels: &[i16]) -> Option<Finding> {
     match c.expected {
-        Ok(held) => Finding::compared(Part::Index, indices(held.indices, levels)),
+        Ok(held) => Finding::compared(Part::Index, indices(held.indices, levels, levels.len())),
         Err(_) => {
             let kept = first_changed(levels, 0, unlawful_index);
             Finding::compared(Part::KeptIndex, kept)

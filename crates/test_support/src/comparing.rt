@@ -1,7 +1,7 @@
-// The first of some places at which two things differ. A place that one of the two does not have counts as different.
+// The first of some places at which two things differ. A place among these that one of the two does not have counts as different.
 ghost use Rattle.std.specs.Prelude.{◌≡◌, ℕ, Bool, Some, ◌<◌, ◌≤◌, ◌&&◌, ltb, length, ◌*◌, ◌/◌, slice_get};
 ghost use Rattle.std.specs.Ordering.{int_eq};
-ghost use Rattle.test_support.specs.Definitions.Comparisons.{Gives, is_same, first_failure, first_difference, first_other, first_other_index};
+ghost use Rattle.test_support.specs.Definitions.Comparisons.{Gives, is_same, first_failure, first_difference, first_difference_of, first_other, first_other_index};
 ghost use Rattle.test_support.specs.Definitions.Numbers.{signed16};
 
 use crate::decoding;
@@ -37,11 +37,19 @@ fn holds<T: PartialEq>(buffer: &[T], i: usize, expected: &T) -> bool
     buffer.get(i) == Some(expected)
 }
 
+// Of the first n places, the first at which two buffers differ.
+// Kept: n may be more than either buffer holds, and what it lacks counts as different, which sub-slices could not say.
+pub fn first_difference_of<T: PartialEq>(a: &[T], b: &[T], n: usize) -> Option<usize>
+    ensures { result ≡ first_difference_of T.eq n a.now b.now }
+{
+    first_failure(0..n, |i| is_same(a, b, i))
+}
+
 // The first place of what is expected at which a buffer does not hold it.
 pub fn first_difference<T: PartialEq>(got: &[T], expected: &[T]) -> Option<usize>
     ensures { result ≡ first_difference T.eq got.now expected.now }
 {
-    first_failure(0..expected.len(), |i| is_same(got, expected, i))
+    first_difference_of(got, expected, expected.len())
 }
 
 // The first place that does not hold what is expected there.
@@ -68,10 +76,10 @@ fn is_index(bytes: &[u8], levels: &[i16], i: usize) -> bool
     i < bytes.len() / 2 && holds(levels, i, &decoding::signed16_at(bytes, 2 * i))
 }
 
-// The first place of a level buffer that differs from the indices that bytes hold.
-// Kept: it differs from `first_difference` in the test of a place alone: what both share is `first_failure`.
-pub fn indices(bytes: &[u8], levels: &[i16]) -> Option<usize>
-    ensures { result ≡ first_other_index bytes.now levels.now }
+// Of the first n places of a level buffer, the first that differs from the index that bytes hold there.
+// Kept: n as of `first_difference_of`, from which it differs in the test of a place alone: what both share is `first_failure`.
+pub fn indices(bytes: &[u8], levels: &[i16], n: usize) -> Option<usize>
+    ensures { result ≡ first_other_index n bytes.now levels.now }
 {
-    first_failure(0..levels.len(), |i| is_index(bytes, levels, i))
+    first_failure(0..n, |i| is_index(bytes, levels, i))
 }

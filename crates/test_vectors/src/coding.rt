@@ -17,7 +17,7 @@ fn compare(z: Shape, bytes: &[u8], levels: &[i16], work: &[i32]) -> Option<Findi
         |i| i32::from(signed16_at(averages, 2 * i)),
     );
     let kept = first_changed(work, z.nodes, work_filler);
-    Finding::compared(Part::Index, indices(bytes, levels))
+    Finding::compared(Part::Index, indices(bytes, levels, levels.len()))
         .or(Finding::compared(Part::Average, average))
         .or(Finding::compared(Part::KeptWork, kept))
 }

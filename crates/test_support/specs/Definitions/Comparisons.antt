@@ -14,9 +14,13 @@ module _ {A : Type 0} (eq : A → A → Bool) where
   is_same (Some x) (Some y) = eq x y
   is_same _ _ = false
 
+  -- of the first n places, the first at which two lists are not the same
+  abbrev pub first_difference_of : ℕ → List A → List A → Option ℕ
+  first_difference_of n xs ys = first_failure 0 n (λ k. is_same (slice_get xs k) (slice_get ys k))
+
   -- the first place of what is expected at which a list is not the same
   abbrev pub first_difference : (got expected : List A) → Option ℕ
-  first_difference got expected = first_failure 0 (length expected) (λ k. is_same (slice_get got k) (slice_get expected k))
+  first_difference got expected = first_difference_of (length expected) got expected
 
   -- of these places, the first at which a list does not hold what it is to hold there
   abbrev pub first_other : (from end : ℕ) → (ℕ → A) → List A → Option ℕ
@@ -26,7 +30,7 @@ module _ {A : Type 0} (eq : A → A → Bool) where
 abbrev pub Gives : {A : Type 0} (n : ℕ) → (ℕ → A → Type 0) → (ℕ → A) → Type 0
 Gives {A} n post f = (k : ℕ) (x : A) → k < n → post k x → x ≡ f k
 
--- the first place at which indices are not those that bytes hold
-abbrev pub first_other_index : List ℕ → List ℤ → Option ℕ
-first_other_index bytes levels =
-    first_failure 0 (length levels) (λ k. ltb k (length bytes / 2) && is_same int_eq (slice_get levels k) (Some (signed16 bytes (2 * k))))
+-- of the first n places, the first at which indices are not those that bytes hold
+abbrev pub first_other_index : ℕ → List ℕ → List ℤ → Option ℕ
+first_other_index n bytes levels =
+    first_failure 0 n (λ k. ltb k (length bytes / 2) && is_same int_eq (slice_get levels k) (Some (signed16 bytes (2 * k))))
