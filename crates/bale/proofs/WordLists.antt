@@ -6,9 +6,9 @@ use native.Mathlib.Nat.{not-suc-le-zero, add-zero}
 use native.Mathlib.Decide.{ℕ_discrete}
 use native.Mathlib.Omega.{arith}
 use lib.IntN.{ℤ}
-use lib.ListN.{length, get_or, drop}
+use lib.ListN.{length, get_or, take, drop}
 use denote.Param.Members.{Mut}
-use lib.Seq.{ext_get_or}
+use lib.Seq.{ext_get_or, drop-drop}
 use mir.Syntax.{w16}
 use mir.Val.{of_z, to_z}
 use Rattle.std.proofs.lemmas.List.{get_or-take, get_or-drop}
@@ -19,10 +19,12 @@ use Rattle.mathematics.specs.Definitions.Tables.{tabulate}
 use Rattle.mathematics.specs.Inner.Splices.{part}
 use Rattle.mathematics.proofs.Splices.{part_long, get_or-part}
 use Rattle.mathematics.proofs.Tables.{length-tabulate, get_or-tabulate}
+use Rattle.quantizer.specs.Definitions.Values.{pair_index}
+use Rattle.quantizer.proofs.Values.{pair_is}
 use Rattle.pyramid.specs.Definitions.Buffers.{Bytes}
 use Rattle.bale.specs.Definitions.Words.{le16, words, word_index, u16_at, u32_at, words_at, indices_at}
 use Rattle.bale.proofs.Stands.{Stands, stands_front, stands_back, stands_join}
-use Rattle.bale.proofs.WordLaws.{digits16, bytes16, index_read}
+use Rattle.bale.proofs.WordLaws.{digits16, bytes16, word_bits, index_read}
 
 pub length-words : (ns : List ℕ) → length (words ns) ≡ 2 * length ns
 unfolding words le16
@@ -159,3 +161,23 @@ chunk_index {m} bytes n i {chunks} d all e h p =
     let e₀ : 2 * i + 0 ≡ 0 + 2 * i = omega arith in
     let e₁ : 2 * i + 1 ≡ 0 + 2 * i + 1 = omega arith in
     index_read _ _ (all (0 + 2 * i)) (all (0 + 2 * i + 1)) (rw (low, high, e₀, e₁) at p)
+
+-- ---- the indices of all pairs of bytes
+
+module _ (bytes : List ℕ) (all : Bytes bytes) where
+  pair_read : (at : ℕ) → pair_index (take 2 (drop at bytes)) ≡ word_index (u16_at bytes at)
+  unfolding u16_at
+  pair_read at =
+      let low : get_or (take 2 (drop at bytes)) 0 0 ≡ get_or bytes (at + 0) 0 = get_or-take 2 (drop at bytes) 0 0 (omega arith) ∙ get_or-drop at bytes 0 0 in
+      let high : get_or (take 2 (drop at bytes)) 1 0 ≡ get_or bytes (at + 1) 0 = get_or-take 2 (drop at bytes) 1 0 (omega arith) ∙ get_or-drop at bytes 1 0 in
+      let same : get_or bytes at 0 + get_or bytes (at + 1) 0 * 256 ≡ get_or bytes at 0 + 256 * get_or bytes (at + 1) 0 = omega arith in
+      pair_is (take 2 (drop at bytes)) ∙ rw (low, high, add-zero, same) (sym (word_bits (get_or bytes at 0 + 256 * get_or bytes (at + 1) 0) (words_short bytes all at)))
+
+  pairs_from : (at n : ℕ) → map pair_index (first_chunks 2 n (drop at bytes)) ≡ indices_at bytes at n
+  unfolding words_at
+  pairs_from at zero = refl
+  pairs_from at (suc n) =
+      ap₂ ◌∷◌ (pair_read at) (ap (λ (rest : List ℕ). map pair_index (first_chunks 2 n rest)) (drop-drop 2 at bytes) ∙ pairs_from (at + 2) n)
+
+  pub pairs_read : (n : ℕ) {pairs : List (List ℕ)} → pairs ≡ first_chunks 2 n bytes → map pair_index pairs ≡ indices_at bytes 0 n
+  pairs_read n e = ap (map pair_index) e ∙ pairs_from 0 n

@@ -7,9 +7,10 @@ use lib.IntN.{ℤ}
 use lib.ListN.{length}
 use Rattle.mathematics.specs.Definitions.Tests.{all_below, all}
 use Rattle.mathematics.specs.Definitions.Tables.{tabulate}
+use Rattle.quantizer.specs.Definitions.Values.{value_ok}
 use Rattle.pyramid.specs.Definitions.Settings.{side_ok, depth_ok, divides, kernel_ok, slot_ok, size_ok, bins_ok}
 use Rattle.pyramid.specs.Definitions.Sizes.{last, nodes_to, total}
-use Rattle.pyramid.specs.Definitions.Refusals.{unless, first, index_ok, shape_refusal}
+use Rattle.pyramid.specs.Definitions.Refusals.{unless, first, shape_refusal}
 use Rattle.pyramid.specs.Definitions.Calls.{leaves}
 use Rattle.bale.specs.Definitions.Words.{le16, le32, words, index_word, word_index, u16_at, u32_at, words_at}
 use Rattle.bale.specs.Definitions.Readings.{percentage_ok, fault_ok, code_where, code_of, probe_where, decode}
@@ -26,7 +27,7 @@ lent_read : (bytes : List ℕ) {places : ℕ} → read_refusal bytes places ≡ 
 lent_read bytes none lent e = reading_is bytes lent (rw e none)
 
 pub worked_files : WorkedFiles
-unfolding size odd lt eq le of_fields of_bits to_bits all_below all tabulate side_ok depth_ok divides kernel_ok slot_ok size_ok bins_ok last nodes_to total unless first index_ok shape_refusal leaves le16 le32 words index_word word_index u16_at u32_at words_at percentage_ok fault_ok code_where code_of probe_where decode numbers_section section_refusal readings_section level_section shape_section bins_from bins_section level_sections file_of slot_in settings_in probe_at note_in levels_from shape_section_refusal bins_section_refusal readings_section_refusal level_section_refusal level_sections_refusal body_refusal check_refusal read_refusal bale_of check_file
+unfolding size odd lt eq le of_fields of_bits to_bits all_below all tabulate side_ok depth_ok divides kernel_ok slot_ok size_ok bins_ok last nodes_to total unless first value_ok shape_refusal leaves le16 le32 words index_word word_index u16_at u32_at words_at percentage_ok fault_ok code_where code_of probe_where decode numbers_section section_refusal readings_section level_section shape_section bins_from bins_section level_sections file_of slot_in settings_in probe_at note_in levels_from shape_section_refusal bins_section_refusal readings_section_refusal level_section_refusal level_sections_refusal body_refusal check_refusal read_refusal bale_of check_file
 worked_files = record {
   piece_file = record { written = refl; checked = refl; read = lent_read _ refl };
   wide_file = record { written = refl; checked = refl; read = lent_read _ refl };

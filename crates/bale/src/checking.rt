@@ -10,7 +10,6 @@ ghost use Rattle.bale.specs.Definitions.Reader.{note_in, levels_place, bins_sect
 
 use crate::shaped::ShapedFile;
 use crate::{Note, finding, places, words};
-use pyramid::IndexRange;
 use refusals::Refusal;
 
 // A section's count, and whether its items are all there.
@@ -29,18 +28,12 @@ pub fn check_section(section: &[u8], count: u16, size: u8) -> Result<(), Refusal
     Ok(())
 }
 
-// Every index of a level times its bin lies within 4,096 of 0: the lowest and the highest do.
-// Kept beside pyramid's `values_within`, which folds indices that are given: these are made of two bytes each where they lie in the file,
-// since no buffer is lent for them. The two share `widened` and `range_ok`.
+// Every index of a level times its bin lies within 4,096 of 0, where the indices lie in the file: there is no buffer to put them in.
 fn indices_ok(indices: &[u8], bin: u16) -> bool
     ensures { result ≡ all (index_ok bin) (indices_at indices.now 0 (length indices.now / 2)) }
 {
-    let mut range = IndexRange::default();
-    let (words, _) = indices.as_chunks::<2>();
-    for word in words {
-        range = pyramid::widened(range, i16::from_le_bytes(*word));
-    }
-    pyramid::range_ok(range, bin)
+    let (pairs, _) = indices.as_chunks::<2>();
+    pyramid::index_pairs_ok(pairs, bin)
 }
 
 impl ShapedFile<'_> {

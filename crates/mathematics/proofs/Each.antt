@@ -35,7 +35,7 @@ module _ {ℓ ℓ'} {A : Type ℓ} (P : A → Type ℓ') (d : A) where
         cases (yes k) = h p k
         cases (no k) = rw (get_or-eq_default l d {n = p} (omega arith)) default
 
-    each_take : (n : ℕ) (l : List A) → Each l → Each (take n l)
+    pub each_take : (n : ℕ) (l : List A) → Each l → Each (take n l)
     each_take n l f = each_inside (take n l) (λ p h. rw (get_or-take n l p d (omega (arith, length-take n l))) (f p))
 
     pub each_tabulate : (n : ℕ) (f : ℕ → A) → ((i : ℕ) → i < n → P (f i)) → Each (tabulate n f)

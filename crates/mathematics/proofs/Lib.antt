@@ -8,3 +8,4 @@ pub mod Held
 pub mod Splices
 pub mod Filling
 pub mod Each
+pub mod Mapping

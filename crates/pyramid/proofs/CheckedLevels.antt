@@ -10,6 +10,7 @@ use lib.IntN.{ℤ, nat_abs}
 use lib.ListN.{length, take, drop}
 use lib.Seq.{drop-drop}
 use Rattle.mathematics.specs.Definitions.Tests.{all}
+use Rattle.quantizer.specs.Definitions.Values.{value_ok}
 use Rattle.pyramid.specs.declared.Settings.{Settings}
 use Rattle.pyramid.specs.Definitions.Settings.{bin}
 use Rattle.pyramid.specs.Definitions.Sizes.{Level, columns_at, rows_at, nodes_at, total}
@@ -63,7 +64,7 @@ module _ (s : Settings) (levels : List ℤ) where
 
   -- the values of a part's indices are those of the level that it holds
   pub part_values : (l : ℕ) {p : List ℤ} → p ≡ level_raster s (read_levels s levels) l → all (index_ok (bin s l)) p ≡ all within (level_raster s values l)
-  unfolding index_ok value_of
+  unfolding value_ok value_of
   part_values l e =
       rw e
       (sym (all_map (value_of s l) within (level_raster s (read_levels s levels) l))

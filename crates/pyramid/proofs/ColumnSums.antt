@@ -1,10 +1,11 @@
 -- The sums that the code forms are those of the definitions: five taps of symmetric weights, and their sizes. Assumes nothing.
-use mathlib.Core.Path.{◌≡◌, sym, ◌∙◌}
+use mathlib.Core.Path.{◌≡◌, sym}
 use mathlib.Core.List.{List}
 use Prim.Native.Nat.{ℕ, ◌+◌, ◌-◌, ◌*◌, ◌≤◌, ◌<◌}
+use native.Mathlib.Nat.{le_trans, le_refl, mul-le-mul_right}
 use native.Mathlib.Omega.{arith}
 use lib.IntN.{ℤ, pos, ◌+ℤ◌, ◌*ℤ◌}
-use lib.ListN.{length, get_or}
+use lib.ListN.{get_or}
 use Rattle.mathematics.specs.Definitions.Sums.{sum}
 use Rattle.mathematics.proofs.Integers.{ints, all₅}
 use Rattle.mathematics.proofs.IntegerLaws.{*ℤ-+ℤ}
@@ -13,9 +14,9 @@ use Rattle.mathematics.proofs.Splices.{get_or-part}
 use Rattle.pyramid.specs.Definitions.Weights.{weight}
 use Rattle.pyramid.specs.Definitions.Edge.{reflect}
 use Rattle.pyramid.specs.Inner.Rows.{as_level, row_at, column_sum, Within, Small}
-use Rattle.pyramid.proofs.Weights.{weight_symmetric}
-use Rattle.pyramid.proofs.SmallBuffers.{by_length}
-use Rattle.pyramid.proofs.TapSums.{within_fits, within_held, within_more}
+use Rattle.pyramid.proofs.Weights.{weight_symmetric, size}
+use Rattle.pyramid.proofs.Windows.{taps_small}
+use Rattle.pyramid.proofs.TapSums.{within_fits}
 
 -- ---- five taps
 
@@ -43,32 +44,13 @@ module _ (columns rows p x : ℕ) (src : List ℤ) {row : List ℤ} (is : row �
   unfolding as_level
   row_read = rw is (get_or-part (reflect (rows - 1) p * columns) (reflect (rows - 1) p * columns + columns) src (pos 0) x (omega arith))
 
-  pub row_within : {e : ℕ} → Small e src → Within e (get_or row x (pos 0))
-  unfolding as_level
-  row_within small = rw row_read (small (reflect (rows - 1) p * columns + x))
-
-  -- as it is passed on
-  pub row_passed : {e : ℕ} → e ≤ 8388608 → Small e src → Within 8388608 (held (get_or row x (pos 0)))
-  row_passed h small = within_held tt (within_more h (row_within small))
-
-pub row_small : (columns rows p : ℕ) (src : List ℤ) {row : List ℤ} {e : ℕ} → row ≡ row_at columns rows p src → length row ≡ columns → Small e src → Small e row
-row_small columns rows p src {row = row} is long small = by_length row (λ x h. row_within columns rows p x src is (omega arith) small)
-
--- ---- a column of five rows
-
-module _ (k : ℕ) (src : List ℤ) (columns rows x : ℕ) (q : ℕ → ℕ) {a b c d e : List ℤ} (ea : a ≡ row_at columns rows (q 0) src) (eb : b ≡ row_at columns rows (q 1) src)
-    (ec : c ≡ row_at columns rows (q 2) src) (ed : d ≡ row_at columns rows (q 3) src) (ee : e ≡ row_at columns rows (q 4) src) (small : Small 4096 src) (inside : x < columns) where
-  -- the value of a row, as it is passed on
-  abbrev at : List ℤ → ℤ
-  at row = held (get_or row x (pos 0))
-
-  at_is : {row : List ℤ} (p : ℕ) → row ≡ row_at columns rows p src → at row ≡ as_level columns src x (reflect (rows - 1) p)
-  at_is p is = held_is (within_fits tt (row_within columns rows p x src is inside small)) ∙ row_read columns rows p x src is inside
-
-  pub column_formed : weight k 4 *ℤ (at a +ℤ at e) +ℤ weight k 3 *ℤ (at b +ℤ at d) +ℤ weight k 2 *ℤ at c ≡ column_sum (weight k) (λ t. reflect (rows - 1) (q t)) (as_level columns src) x
-  unfolding column_sum
-  column_formed =
-      rw (at_is (q 0) ea, at_is (q 1) eb, at_is (q 2) ec, at_is (q 3) ed, at_is (q 4) ee) (sym (five_taps k (λ n. as_level columns src x (reflect (rows - 1) (q n)))))
+-- ---- a column's sum, with weights whose sizes together are at most c
+pub column_within : (b : ℕ → ℤ) (y : ℕ → ℕ) (columns x c e : ℕ) (src : List ℤ) → size b ≤ c → Small e src → Within (c * e) (column_sum b y (as_level columns src) x)
+unfolding column_sum as_level
+column_within b y columns x c e src h f = record {
+  small =
+      le_trans (taps_small b (λ n. as_level columns src x (y n)) 5 e (le_refl 5) (λ n hn. (f (y n * columns + x)).small)) (mul-le-mul_right e h);
+}
 
 -- ---- a node of five sums
 

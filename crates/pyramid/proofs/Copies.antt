@@ -1,20 +1,26 @@
 -- The numbers that `copying` forms, as the machine forms them: clamped values, indices and the values of indices. Assumes nothing.
-use mathlib.Core.Path.{◌≡◌, refl, ap, ◌∙◌}
-use Prim.Native.Nat.{ℕ}
+use mathlib.Core.Path.{◌≡◌, refl, ap, ap₂, ◌∙◌}
+use mathlib.Core.List.{List, map}
+use Prim.Native.Nat.{ℕ, ◌≤◌}
 use native.Mathlib.Omega.{arith}
 use lib.IntN.{ℤ, pos, negsuc, nat_abs, ◌+ℤ◌, ◌-ℤ◌, ◌*ℤ◌}
+use lib.ListN.{length, get_or}
 use mir.Syntax.{w16, w32}
-use mir.Val.{Fits, SFits}
-use Rattle.mathematics.proofs.Held.{held, held_is, natural_fits, short, short_is, widened}
-use Rattle.mathematics.proofs.IntegerLaws.{fits_by, abs_of_fits, abs_sum, abs_minus, abs_product}
+use mir.Val.{SFits, to_z}
+use Rattle.mathematics.specs.Definitions.Tables.{tabulate}
+use Rattle.mathematics.proofs.Tables.{map-tabulate}
+use Rattle.mathematics.proofs.Held.{held, held_is, short, short_is}
+use Rattle.mathematics.proofs.IntegerLaws.{fits_by, abs_sum, abs_minus}
 use Rattle.std.specs.Int.{int_min, int_max}
+use Rattle.std.proofs.lemmas.Int as std
 use Rattle.std.proofs.lemmas.Bool.Decides.{nat_tests}
 use Rattle.quantizer.specs.Definitions.Bins.{bin_index}
 use Rattle.pyramid.specs.declared.Settings.{Settings}
 use Rattle.pyramid.specs.Definitions.Refusals.{limit}
 use Rattle.pyramid.specs.Definitions.Rebuilding.{clamp}
-use Rattle.pyramid.specs.Inner.Rows.{Within}
+use Rattle.pyramid.specs.Inner.Rows.{Within, Small, IndicesWithin}
 use Rattle.pyramid.proofs.TapSums.{within_fits}
+use Rattle.pyramid.proofs.SmallBuffers.{small-tabulate}
 
 -- ---- what a value is clamped to
 
@@ -28,51 +34,56 @@ module _ (s : Settings) where
   pub clamped_stored : {x r : ℤ} → SFits w32 x → SFits w32 r → r ≡ int_max (pos 0) (int_min (held x) (pos 255)) → nat_abs (held r) ≡ clamp s x
   clamped_stored {x} f g e = rw (held_is g, e, held_is f) (clamped x)
 
--- ---- the index of a difference
+-- ---- a difference
 
 module _ {a p : ℤ} (ha : Within 8388608 a) (hp : Within 8388608 p) where
-  difference-is : held a -ℤ held p ≡ a -ℤ p
-  difference-is = rw (held_is (within_fits tt ha), held_is (within_fits tt hp))
+  difference_formed : held a -ℤ held p ≡ a -ℤ p
+  difference_formed = rw (held_is (within_fits tt ha), held_is (within_fits tt hp))
 
   pub difference-fits : SFits w32 (held a -ℤ held p)
-  difference-fits = rw difference-is (fits_by w32 16777216 tt (abs_minus 8388608 8388608 a p ha.small hp.small))
+  difference-fits = rw difference_formed (fits_by w32 16777216 tt (abs_minus 8388608 8388608 a p ha.small hp.small))
 
-  module _ (n : ℕ) (lawful : Within limit (bin_index (a -ℤ p) n)) {r : ℤ} (e : r ≡ bin_index (held (held a -ℤ held p)) n) where
-    index_is : r ≡ bin_index (a -ℤ p) n
-    index_is = e ∙ ap (λ (z : ℤ). bin_index z n) (held_is difference-fits ∙ difference-is)
+  pub difference_held : held (held a -ℤ held p) ≡ a -ℤ p
+  difference_held = held_is difference-fits ∙ difference_formed
 
-    index_held : held r ≡ bin_index (a -ℤ p) n
-    index_held = rw index_is (held_is (fits_by w32 limit tt lawful.small))
+-- ---- the indices of a row of differences
 
-    pub index-fits : SFits w16 (held r)
-    index-fits = rw index_held (fits_by w16 limit tt lawful.small)
+module _ (averages predicted : List ℤ) where
+  abbrev difference : ℕ → ℤ
+  difference i = get_or averages i (pos 0) -ℤ get_or predicted i (pos 0)
 
-    pub index_short : short (held r) ≡ bin_index (a -ℤ p) n
-    index_short = short_is index-fits ∙ index_held
+  module _ (n : ℕ) {differences made : List ℤ} (d : differences ≡ tabulate (length predicted) difference) (m : made ≡ map (λ L. bin_index L n) differences) where
+    pub indices_made : {count : ℕ} → length predicted ≡ count → made ≡ tabulate count (λ i. bin_index (difference i) n)
+    indices_made {count} e = m ∙ ap (map (λ L. bin_index L n)) d ∙ rw e (map-tabulate (λ L. bin_index L n) count difference)
 
--- ---- the value of an index
+    pub indices_small : length predicted ≡ length averages → IndicesWithin averages predicted n → Small limit made
+    indices_small e lawful = rw (indices_made e) (small-tabulate (length averages) (λ i. bin_index (difference i) n) lawful.at)
 
-module _ {m : ℤ} (hm : SFits w16 m) {n : ℕ} (hn : Fits w16 n) where
-  -- as it is stored
-  abbrev pub value : ℤ
-  value = held (held (short m) *ℤ held (pos n))
+-- an index, clamped to 16 bits and stored in them
+pub index_stored : {m r : ℤ} → Within limit m → r ≡ int_max (negsuc 32767) (int_min (held m) (pos 32767)) → short (held r) ≡ m
+index_stored {m} {r} h e =
+    let inside : int_max (negsuc 32767) (int_min m (pos 32767)) ≡ m = omega (arith, std.ints, std.clamps, h.small) in
+    let is : r ≡ m = e ∙ rw (held_is (within_fits tt h)) inside in
+    rw (is, held_is (within_fits tt h)) (short_is (fits_by w16 limit tt h.small))
 
-  value_formed : held (short m) *ℤ held (pos n) ≡ m *ℤ pos n
-  value_formed = rw (widened hm, held_is (natural_fits hn))
+-- ---- the value of an index, of 16 bits, with what is predicted for it
 
-  pub value-fits : SFits w32 (held (short m) *ℤ held (pos n))
-  value-fits = rw value_formed (fits_by w32 2147450880 tt (abs_product 32768 65535 m (pos n) (abs_of_fits w16 m hm) (omega arith)))
+module _ {m : ℤ} {n : ℕ} (hm : SFits w16 m) (hn : n ≤ 255) (lawful : Within limit (m *ℤ pos n)) where
+  value_formed : short m *ℤ to_z w16 n ≡ m *ℤ pos n
+  value_formed = let e : to_z w16 n ≡ pos n = omega (arith, std.ints, hn) in rw (short_is hm, e)
 
-  pub value-is : value ≡ m *ℤ pos n
-  value-is = held_is value-fits ∙ value_formed
+  pub value_fits : SFits w16 (short m *ℤ to_z w16 n)
+  value_fits = rw value_formed (fits_by w16 limit tt lawful.small)
 
-  -- with what is predicted for it
-  module _ {p : ℤ} (lawful : Within limit (m *ℤ pos n)) (hp : Within 8388608 p) where
-    rebuilt-is : value +ℤ held p ≡ m *ℤ pos n +ℤ p
-    rebuilt-is = rw (value-is, held_is (within_fits tt hp))
+  module _ {p r : ℤ} (hp : Within 8388608 p) (is : r ≡ short (short m *ℤ to_z w16 n)) where
+    value_is : r ≡ m *ℤ pos n
+    value_is = is ∙ short_is value_fits ∙ value_formed
 
-    pub rebuilt-fits : SFits w32 (value +ℤ held p)
-    rebuilt-fits = rw rebuilt-is (fits_by w32 8392704 tt (abs_sum limit 8388608 (m *ℤ pos n) p lawful.small hp.small))
+    sum_formed : held r +ℤ held p ≡ m *ℤ pos n +ℤ p
+    sum_formed = ap₂ ◌+ℤ◌ (ap held value_is ∙ held_is (fits_by w32 limit tt lawful.small)) (held_is (within_fits tt hp))
 
-    pub rebuilt_held : held (value +ℤ held p) ≡ m *ℤ pos n +ℤ p
-    rebuilt_held = held_is rebuilt-fits ∙ rebuilt-is
+    pub rebuilt_fits : SFits w32 (held r +ℤ held p)
+    rebuilt_fits = rw sum_formed (fits_by w32 8392704 tt (abs_sum limit 8388608 (m *ℤ pos n) p lawful.small hp.small))
+
+    pub rebuilt_held : held (held r +ℤ held p) ≡ m *ℤ pos n +ℤ p
+    rebuilt_held = held_is rebuilt_fits ∙ sum_formed

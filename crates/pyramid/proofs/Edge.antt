@@ -72,5 +72,14 @@ module _ (z : ℕ) (least : 1 ≤ z) (f g : ℕ → ℕ) (a : EdgeRule z f) (b :
 pub reduce_inside : (z i t : ℕ) → 2 ≤ z → i ≤ z / 2 → t < 5 → reflect z (2 * i + t) ≤ z
 reduce_inside z i t hz hi ht = reflect_most z (2 * i + t) (omega arith) (omega arith)
 
+-- and at most two columns from the one in the middle
+pub reduce_from : (z i t : ℕ) → 2 ≤ z → 2 * i ≤ z → t < 5 → 2 * i ≤ reflect z (2 * i + t) + 2
+unfolding reflect
+reduce_from z i t hz hi ht = omega arith
+
+pub reduce_upto : (z i t : ℕ) → 2 ≤ z → 2 * i ≤ z → t < 5 → reflect z (2 * i + t) ≤ 2 * i + 2
+unfolding reflect
+reduce_upto z i t hz hi ht = omega arith
+
 pub expand_inside : (z i t : ℕ) → 1 ≤ z → i ≤ 2 * z + 1 → t < 5 → reflect z (halved i t) ≤ z
 expand_inside z i t hz hi ht = reflect_most z (halved i t) (omega arith) (omega arith)

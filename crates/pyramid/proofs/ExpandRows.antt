@@ -1,6 +1,6 @@
--- The row of sums that EXPAND forms first: its values and their sizes, and that a node along it is a node of EXPAND. Assumes nothing.
+-- The row of sums that EXPAND forms first: its values and their sizes, and that a sum along it, over 100, is a node of EXPAND. Assumes nothing.
 use mathlib.Core.Path.{◌≡◌, sym, ap, ◌∙◌}
-use mathlib.Core.List.{List}
+use mathlib.Core.List.{List, map}
 use Prim.Native.Nat.{ℕ, ◌+◌, ◌-◌, ◌*◌, ◌≤◌, ◌<◌}
 use native.Mathlib.Nat.{le_trans}
 use native.Mathlib.Omega.{arith}
@@ -8,8 +8,9 @@ use lib.IntN.{ℤ, pos, ◌*ℤ◌}
 use lib.ListN.{length, get_or}
 use Rattle.mathematics.specs.Definitions.Tables.{tabulate}
 use Rattle.mathematics.proofs.Sums.{sum_same}
-use Rattle.mathematics.proofs.Tables.{length-tabulate, get_or-tabulate, tabulate-same}
+use Rattle.mathematics.proofs.Tables.{length-tabulate, get_or-tabulate, tabulate-same, map-tabulate}
 use Rattle.quantizer.specs.Definitions.Rounding.{round_div}
+use Rattle.quantizer.proofs.Rounding.{round_four}
 use Rattle.pyramid.specs.Inner.Lawful.{Kernel}
 use Rattle.pyramid.specs.Definitions.Edge.{reflect}
 use Rattle.pyramid.specs.Definitions.Steps.{even_weight, halved, expand}
@@ -19,8 +20,8 @@ use Rattle.pyramid.proofs.Windows.{window_columns}
 use Rattle.pyramid.proofs.Edge.{expand_inside}
 use Rattle.pyramid.proofs.TapSums.{within_more}
 use Rattle.pyramid.proofs.SmallBuffers.{small-tabulate}
-use Rattle.pyramid.proofs.ReduceRows.{column_within}
-use Rattle.pyramid.proofs.ExpandTaps.{node}
+use Rattle.pyramid.proofs.ColumnSums.{column_within}
+use Rattle.pyramid.proofs.ExpandTaps.{along}
 
 -- the sums of the columns for row j of the level below
 module _ (k columns rows j : ℕ) (src : List ℤ) where
@@ -37,16 +38,19 @@ module _ (k columns rows j : ℕ) (src : List ℤ) {sums : List ℤ} (is : sums 
       (small-tabulate columns (column k columns rows j src) (λ x l. within_more (omega arith)
       (column_within (even_weight k j) (λ t. reflect (rows - 1) (halved j t)) columns x 14 524288 src (le_trans (even_size h j) (gain_most h)) small)))
 
-  node_expanded : 2 ≤ columns → (i : ℕ) → i < 2 * (columns - 1) + 1 → node k (columns - 1) sums i ≡ expand k (columns - 1) (rows - 1) (as_level columns src) i j
+  along_expanded : 2 ≤ columns → (i : ℕ) → i < 2 * (columns - 1) + 1 → round_div (along k (columns - 1) sums i) 100 ≡ expand k (columns - 1) (rows - 1) (as_level columns src) i j
   unfolding expand
-  node_expanded wide i l =
-      ap (λ (z : ℤ). round_div (pos 4 *ℤ z) 400)
+  along_expanded wide i l =
+      sym (round_four (along k (columns - 1) sums i) 100 (omega arith))
+      ∙ ap (λ (z : ℤ). round_div (pos 4 *ℤ z) 400)
       (sum_same 5 _ _ (λ t ht. ap (λ (z : ℤ). even_weight k i t *ℤ z)
       (ap (λ (m : List ℤ). get_or m (reflect (columns - 1) (halved i t)) (pos 0)) is
       ∙ get_or-tabulate columns (column k columns rows j src) (pos 0) (reflect (columns - 1) (halved i t)) (omega (arith, expand_inside (columns - 1) i t (omega arith) (omega arith) ht))))
       ∙ sym (window_columns (even_weight k i) (even_weight k j) (λ t. reflect (columns - 1) (halved i t)) (λ t. reflect (rows - 1) (halved j t)) (as_level columns src)))
 
-  -- the row that is made along them
-  pub row_expanded : 2 ≤ columns → tabulate (2 * (length sums - 1) + 1) (node k (length sums - 1) sums)
-      ≡ tabulate (2 * (columns - 1) + 1) (λ i. expand k (columns - 1) (rows - 1) (as_level columns src) i j)
-  row_expanded wide = rw sums_long (tabulate-same (2 * (columns - 1) + 1) (node k (columns - 1) sums) _ (node_expanded wide))
+  -- the row that is made along them, with each sum rounded
+  pub row_expanded : 2 ≤ columns → {row : List ℤ} → row ≡ tabulate (2 * (length sums - 1) + 1) (along k (length sums - 1) sums)
+      → map (λ S. round_div S 100) row ≡ tabulate (2 * (columns - 1) + 1) (λ i. expand k (columns - 1) (rows - 1) (as_level columns src) i j)
+  row_expanded wide e =
+      rw (e, sums_long)
+      (map-tabulate (λ S. round_div S 100) (2 * (columns - 1) + 1) (along k (columns - 1) sums) ∙ tabulate-same (2 * (columns - 1) + 1) _ _ (along_expanded wide))

@@ -1,14 +1,18 @@
--- The sums of products in `five` and `three`, as the machine forms them: each step fits 32 bits, and the last is the sum. Assumes nothing.
+-- The sum of products in `five`, as the machine forms it: each step fits 32 bits, and the last is the sum. Assumes nothing.
 use mathlib.Core.Path.{◌≡◌, ◌∙◌}
-use Prim.Native.Nat.{ℕ, ◌^◌, ◌≤◌}
+use Prim.Native.Nat.{ℕ, ◌*◌, ◌^◌, ◌≤◌}
 use native.Mathlib.Nat.{le_trans}
+use native.Mathlib.Omega.{arith}
 use lib.Dec.{T, ltb}
-use lib.IntN.{ℤ, nat_abs, ◌+ℤ◌, ◌*ℤ◌}
+use lib.IntN.{ℤ, pos, nat_abs, ◌+ℤ◌, ◌-ℤ◌, ◌*ℤ◌}
 use mir.Syntax.{w32}
 use mir.Val.{SFits}
-use Rattle.pyramid.specs.Inner.Rows.{Within}
+use Rattle.std.proofs.lemmas.Int as std
+use Rattle.mathematics.proofs.Integers.{ints, all₁, all₅}
 use Rattle.mathematics.proofs.Held.{held, held_is}
 use Rattle.mathematics.proofs.IntegerLaws.{fits_by, abs_sum, abs_product}
+use Rattle.pyramid.specs.Definitions.Weights.{weight}
+use Rattle.pyramid.specs.Inner.Rows.{Within}
 
 pub within_more : {e f : ℕ} {x : ℤ} → e ≤ f → Within e x → Within f x
 within_more h w = record { small = le_trans w.small h }
@@ -20,78 +24,70 @@ within_fits {e} t w = fits_by w32 e t w.small
 pub within_held : {e : ℕ} {x : ℤ} → T (ltb e (2 ^ 31)) → Within e x → Within e (held x)
 within_held t w = rw (held_is (within_fits t w)) w
 
--- a value, and a weight
+-- ---- five values, weighed: half the centre's weight times what the middle one has more than the outer two, and 5 times the other four
+
 abbrev pub Value : ℤ → Type 0
 Value x = Within 8388608 x
 
-abbrev pub Weight : ℤ → Type 0
-Weight w = Within 12 w
+apart : (h a b c d e : ℤ) → h *ℤ (pos 2 *ℤ c -ℤ (a +ℤ e)) +ℤ pos 5 *ℤ (b +ℤ d +ℤ (a +ℤ e))
+    ≡ (pos 5 -ℤ h) *ℤ (a +ℤ e) +ℤ pos 5 *ℤ (b +ℤ d) +ℤ pos 2 *ℤ h *ℤ c
+apart = all₁ _ (λ x y. all₅ _ (λ p n q m r s t u v w. simp ints (omega arith)))
 
-pair : (a e : ℤ) → Value a → Value e → nat_abs (a +ℤ e) ≤ 16777216
-pair a e ha he = abs_sum 8388608 8388608 a e ha.small he.small
+-- the weights are 2k, 5 and 5 - k
+weights_apart : (k : ℕ) (a b c d e : ℤ) → pos k *ℤ (pos 2 *ℤ c -ℤ (a +ℤ e)) +ℤ pos 5 *ℤ (b +ℤ d +ℤ (a +ℤ e))
+    ≡ (pos 5 -ℤ pos k) *ℤ (a +ℤ e) +ℤ pos 5 *ℤ (b +ℤ d) +ℤ pos (2 * k) *ℤ c
+weights_apart k = apart (pos k)
 
-outer : (w a e : ℤ) → Weight w → Value a → Value e → nat_abs (w *ℤ (a +ℤ e)) ≤ 201326592
-outer w a e hw ha he = abs_product 12 16777216 w (a +ℤ e) hw.small (pair a e ha he)
+module _ {k : ℕ} {h a b c d e : ℤ} (is : h ≡ pos k) (most : k ≤ 6) (ha : Value a) (hb : Value b) (hc : Value c) (hd : Value d) (he : Value e) where
+  abbrev difference : ℤ
+  difference = held (held (pos 2 *ℤ held c) -ℤ held (held a +ℤ held e))
 
-outers : (w a e v b d : ℤ) → Weight w → Value a → Value e → Weight v → Value b → Value d → nat_abs (w *ℤ (a +ℤ e) +ℤ v *ℤ (b +ℤ d)) ≤ 402653184
-outers w a e v b d hw ha he hv hb hd =
-    abs_sum 201326592 201326592 (w *ℤ (a +ℤ e)) (v *ℤ (b +ℤ d)) (outer w a e hw ha he) (outer v b d hv hb hd)
+  difference_is : difference ≡ pos 2 *ℤ c -ℤ (a +ℤ e)
+  difference_is = omega (arith, std.ints, ha.small, hc.small, he.small)
 
-middle : (w c : ℤ) → Weight w → Value c → nat_abs (w *ℤ c) ≤ 100663296
-middle w c hw hc = abs_product 12 8388608 w c hw.small hc.small
+  difference_small : nat_abs (pos 2 *ℤ c -ℤ (a +ℤ e)) ≤ 33554432
+  difference_small = omega (arith, std.ints, ha.small, hc.small, he.small)
 
--- ---- what the machine forms, step by step
+  product_is : held h *ℤ difference ≡ pos k *ℤ (pos 2 *ℤ c -ℤ (a +ℤ e))
+  product_is = let n : held (pos k) ≡ pos k = omega (arith, std.ints, most) in rw (is, n, difference_is)
 
-module _ {a e : ℤ} (ha : Value a) (he : Value e) where
-  pair_is : held a +ℤ held e ≡ a +ℤ e
-  pair_is = rw (held_is (within_fits tt ha), held_is (within_fits tt he))
+  product_small : nat_abs (pos k *ℤ (pos 2 *ℤ c -ℤ (a +ℤ e))) ≤ 201326592
+  product_small = abs_product 6 33554432 (pos k) (pos 2 *ℤ c -ℤ (a +ℤ e)) most difference_small
 
-  pub pair_fits : SFits w32 (held a +ℤ held e)
-  pair_fits = rw pair_is (fits_by w32 16777216 tt (pair a e ha he))
+  pub product_fits : SFits w32 (held h *ℤ difference)
+  product_fits = rw product_is (fits_by w32 201326592 tt product_small)
 
-  module _ {w : ℤ} (hw : Weight w) where
-    outer_is : held w *ℤ held (held a +ℤ held e) ≡ w *ℤ (a +ℤ e)
-    outer_is = rw (held_is pair_fits, pair_is, held_is (within_fits tt hw))
+  abbrev rest : ℤ
+  rest = held (pos 5 *ℤ held (held (held b +ℤ held d) +ℤ held (held a +ℤ held e)))
 
-    pub outer_fits : SFits w32 (held w *ℤ held (held a +ℤ held e))
-    outer_fits = rw outer_is (fits_by w32 201326592 tt (outer w a e hw ha he))
+  rest_is : rest ≡ pos 5 *ℤ (b +ℤ d +ℤ (a +ℤ e))
+  rest_is = omega (arith, std.ints, ha.small, hb.small, hd.small, he.small)
 
-module _ {w c : ℤ} (hw : Weight w) (hc : Value c) where
-  middle_is : held w *ℤ held c ≡ w *ℤ c
-  middle_is = rw (held_is (within_fits tt hw), held_is (within_fits tt hc))
-
-  pub middle_fits : SFits w32 (held w *ℤ held c)
-  middle_fits = rw middle_is (fits_by w32 100663296 tt (middle w c hw hc))
-
-module _ {w a e v c : ℤ} (hw : Weight w) (ha : Value a) (he : Value e) (hv : Weight v) (hc : Value c) where
-  three_is : held (held w *ℤ held (held a +ℤ held e)) +ℤ held (held v *ℤ held c) ≡ w *ℤ (a +ℤ e) +ℤ v *ℤ c
-  three_is = rw (held_is (outer_fits ha he hw), outer_is ha he hw, held_is (middle_fits hv hc), middle_is hv hc)
-
-  pub three_small : nat_abs (w *ℤ (a +ℤ e) +ℤ v *ℤ c) ≤ 301989888
-  three_small = abs_sum 201326592 100663296 (w *ℤ (a +ℤ e)) (v *ℤ c) (outer w a e hw ha he) (middle v c hv hc)
-
-  pub three_fits : SFits w32 (held (held w *ℤ held (held a +ℤ held e)) +ℤ held (held v *ℤ held c))
-  three_fits = rw three_is (fits_by w32 301989888 tt three_small)
-
-  pub three_held : held (held (held w *ℤ held (held a +ℤ held e)) +ℤ held (held v *ℤ held c)) ≡ w *ℤ (a +ℤ e) +ℤ v *ℤ c
-  three_held = held_is three_fits ∙ three_is
-
-module _ {w a e v b d u c : ℤ} (hw : Weight w) (ha : Value a) (he : Value e) (hv : Weight v) (hb : Value b) (hd : Value d) (hu : Weight u) (hc : Value c) where
-  four_is : held (held w *ℤ held (held a +ℤ held e)) +ℤ held (held v *ℤ held (held b +ℤ held d)) ≡ w *ℤ (a +ℤ e) +ℤ v *ℤ (b +ℤ d)
-  four_is = rw (held_is (outer_fits ha he hw), outer_is ha he hw, held_is (outer_fits hb hd hv), outer_is hb hd hv)
-
-  pub four_fits : SFits w32 (held (held w *ℤ held (held a +ℤ held e)) +ℤ held (held v *ℤ held (held b +ℤ held d)))
-  four_fits = rw four_is (fits_by w32 402653184 tt (outers w a e v b d hw ha he hv hb hd))
+  rest_small : nat_abs (pos 5 *ℤ (b +ℤ d +ℤ (a +ℤ e))) ≤ 167772160
+  rest_small = omega (arith, std.ints, ha.small, hb.small, hd.small, he.small)
 
   abbrev formed : ℤ
-  formed = held (held (held w *ℤ held (held a +ℤ held e)) +ℤ held (held v *ℤ held (held b +ℤ held d))) +ℤ held (held u *ℤ held c)
+  formed = held (held h *ℤ difference) +ℤ rest
 
-  five_is : formed ≡ w *ℤ (a +ℤ e) +ℤ v *ℤ (b +ℤ d) +ℤ u *ℤ c
-  five_is = rw (held_is four_fits, four_is, held_is (middle_fits hu hc), middle_is hu hc)
+  formed_is : formed ≡ pos k *ℤ (pos 2 *ℤ c -ℤ (a +ℤ e)) +ℤ pos 5 *ℤ (b +ℤ d +ℤ (a +ℤ e))
+  formed_is = rw (held_is product_fits, product_is, rest_is)
 
   pub five_fits : SFits w32 formed
-  five_fits =
-      rw five_is (fits_by w32 503316480 tt (abs_sum 402653184 100663296 (w *ℤ (a +ℤ e) +ℤ v *ℤ (b +ℤ d)) (u *ℤ c) (outers w a e v b d hw ha he hv hb hd) (middle u c hu hc)))
+  five_fits = rw formed_is (fits_by w32 369098752 tt (abs_sum 201326592 167772160 (pos k *ℤ (pos 2 *ℤ c -ℤ (a +ℤ e))) (pos 5 *ℤ (b +ℤ d +ℤ (a +ℤ e))) product_small rest_small))
 
-  pub five_held : held formed ≡ w *ℤ (a +ℤ e) +ℤ v *ℤ (b +ℤ d) +ℤ u *ℤ c
-  five_held = held_is five_fits ∙ five_is
+  pub five_held : held formed ≡ (pos 5 -ℤ pos k) *ℤ (a +ℤ e) +ℤ pos 5 *ℤ (b +ℤ d) +ℤ pos (2 * k) *ℤ c
+  five_held = held_is five_fits ∙ formed_is ∙ weights_apart k a b c d e
+
+-- ---- two values, and three
+
+pub odd_held : {a b : ℤ} → Value a → Value b → held (pos 5 *ℤ held (held a +ℤ held b)) ≡ pos 5 *ℤ (a +ℤ b)
+odd_held ha hb = omega (arith, std.ints, ha.small, hb.small)
+
+no_neighbours : (w v u a b c : ℤ) → w *ℤ (a +ℤ c) +ℤ v *ℤ (pos 0 +ℤ pos 0) +ℤ u *ℤ b ≡ w *ℤ (a +ℤ c) +ℤ u *ℤ b
+no_neighbours = all₁ _ (λ x y. all₅ _ (λ p n q m r s t u v w. simp ints (omega arith)))
+
+-- with 0 in the place of the two beside the middle one, as `five` is passed them
+pub even_passed : {a b c : ℤ} (k : ℕ) → Value a → Value b → Value c
+    → weight k 4 *ℤ (held a +ℤ held c) +ℤ weight k 3 *ℤ (held (pos 0) +ℤ held (pos 0)) +ℤ weight k 2 *ℤ held b ≡ weight k 4 *ℤ (a +ℤ c) +ℤ weight k 2 *ℤ b
+even_passed {a} {b} {c} k ha hb hc =
+    rw (held_is (within_fits tt ha), held_is (within_fits tt hb), held_is (within_fits tt hc)) (no_neighbours (weight k 4) (weight k 3) (weight k 2) a b c)

@@ -16,7 +16,6 @@ use Rattle.mathematics.proofs.Sums.{total}
 use Rattle.mathematics.specs.Definitions.Distances.{distance}
 use Rattle.pyramid.specs.Definitions.Weights.{weights, weight, WeightRule}
 use Rattle.pyramid.specs.Definitions.Steps.{even_weight}
-use Rattle.pyramid.specs.Inner.Rows.{Within}
 use Rattle.pyramid.specs.Definitions.Bound.{hundredths}
 use Rattle.pyramid.specs.Checks.Multiplier.{gain, Multipliers}
 use Rattle.pyramid.specs.Inner.Lawful.{Kernel}
@@ -42,26 +41,6 @@ is_eq (negsuc m) (negsuc n) t = ap negsuc (eqb→eq m n t)
 -- the sizes of five weights together
 abbrev pub size : (ℕ → ℤ) → ℕ
 size a = total 5 (λ t. nat_abs (a t))
-
--- ---- one weight
-
--- the table's entry for a distance from the centre
-abbrev pub entry : ℕ → ℕ → ℤ
-unfolding weights
-entry k d = get_or (get_or weights (k - 3) []) d (pos 0)
-
-pub weight_entry : (k d : ℕ) → entry k d ≡ weight k (2 + d)
-unfolding weight weights
-weight_entry k d = let e : d ≡ distance (2 + d) 2 = omega arith in ap (λ (x : ℕ). entry k x) e
-
--- at most 12, 7 and 2 for distance 0, 1, 2
-pub weight_within : {k : ℕ} → Kernel k → (d : ℕ) → d < 3 → Within (12 - 5 * d) (weight k (2 + d))
-weight_within {k} h d l = record {
-  small =
-      leb→le (nat_abs (weight k (2 + d))) (12 - 5 * d)
-      (below_at 3 (λ d. leb (nat_abs (weight k (2 + d))) (12 - 5 * d))
-      (at_kernel (λ k. all_below 3 (λ d. leb (nat_abs (weight k (2 + d))) (12 - 5 * d))) (unfold all_below weight weights in tt) h) d l);
-}
 
 -- ---- the paper's formula
 

@@ -5,3 +5,4 @@ pub mod Numbers
 pub mod Conditions
 pub mod Refused
 pub mod SizeAtFault
+pub mod WorkedPasses

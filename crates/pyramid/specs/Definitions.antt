@@ -5,12 +5,12 @@ pub mod Depth
 pub mod Weights
 pub mod Edge
 pub mod Steps
+pub mod Passes
 pub mod Pyramid
 pub mod Rebuilding
 pub mod Bound
 pub mod Buffers
 pub mod Refusals
-pub mod IndexRanges
 pub mod Calls
 pub mod Answers
 pub mod Generations

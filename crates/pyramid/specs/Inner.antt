@@ -2,4 +2,5 @@ pub mod Lawful
 pub mod Accepted
 pub mod Ranges
 pub mod Rows
+pub mod RowSums
 pub mod Layers

@@ -1,1 +1,2 @@
 pub mod Accuracy
+pub mod RowsThenColumns

@@ -11,7 +11,7 @@ ghost use Rattle.pyramid.specs.Inner.Ranges.{CodingRanges, RebuildingRanges};
 ghost use Rattle.pyramid.specs.Inner.Layers.{predicted, index_at, value_at, LevelSmall, IndexLevel, Holds, ValueLevel};
 
 use crate::levels::Level;
-use crate::{LawfulSettings, averaging, copying, expanding};
+use crate::{LawfulSettings, averaging, copying, expanding, limits};
 
 // Kept: that the buffers hold all levels, in a clause of each function that goes through them and in the words of specs/Inner: a type for a
 // lent buffer and its settings would be made for one call in coding and in rebuilding, and taken apart there again.
@@ -29,10 +29,12 @@ pub fn average_levels(lawful: LawfulSettings, work: &mut [i32])
     }
 }
 
-// What row j of a level is predicted to be, from what stands before the level: EXPAND of the level above it, or 0 at the top.
-fn predict_row(level: Level, j: usize, before: &[i32], row: &mut [i32])
+// What row j of a level is predicted to be, from what stands before the level: EXPAND of the level above it, or 0 at the top. A row of sums is
+// lent for it.
+fn predict_row(level: Level, j: usize, before: &[i32], sums: &mut [i32], row: &mut [i32])
     requires lengths { let s = level.settings in (j < rows_at s level.number) × (start s level.number ≤ length before.now)
         × (length row.old ≡ columns_at s level.number) }
+    requires room { 65 ≤ length sums.old }
     requires small { LevelSmall level.settings (suc level.number) 524288 before.now }
     ensures { let s = level.settings in let l = level.number in row.new ≡
         tabulate (columns_at s l) (λ i. predicted s (s.depth - l) l (read_levels s before.now) i j) }
@@ -42,7 +44,7 @@ fn predict_row(level: Level, j: usize, before: &[i32], row: &mut [i32])
     } else {
         let above = level.above();
         let start = above.start();
-        expanding::expand_row(above.raster(&before[start..]), j, row);
+        expanding::expand_row(above.raster(&before[start..]), j, sums, row);
     }
 }
 
@@ -59,9 +61,10 @@ fn index_level(level: Level, work: &[i32], levels: &mut [i16])
     let columns = level.columns();
     let mut row: [i32; 129] = [0; 129];
     let row = &mut row[..columns];
+    let mut sums: [i32; 65] = [0; 65];
     let from = level.start();
     for j in 0..level.rows() {
-        predict_row(level, j, work, row);
+        predict_row(level, j, work, &mut sums, row);
         let at = from + j * columns;
         let to = at + columns;
         copying::index_row(&work[at..to], row, bin, &mut levels[at..to]);
@@ -90,10 +93,11 @@ fn value_level(level: Level, levels: &[i16], work: &mut [i32])
     let columns = level.columns();
     let mut row: [i32; 129] = [0; 129];
     let row = &mut row[..columns];
+    let mut sums: [i32; 65] = [0; 65];
     let from = level.start();
     let (before, here) = work.split_at_mut(from);
     for j in 0..level.rows() {
-        predict_row(level, j, before, row);
+        predict_row(level, j, before, &mut sums, row);
         let at = j * columns;
         let place = from + at;
         let indices = &levels[place..place + columns];
@@ -121,7 +125,7 @@ pub fn values_ok(lawful: LawfulSettings, levels: &[i16]) -> bool
     for l in (0..=lawful.settings.depth).rev() {
         let level = lawful.level(l);
         let (here, below) = left.split_at(level.nodes());
-        if !copying::values_within(here, level.bin()) {
+        if !limits::indices_ok(here, level.bin()) {
             return false;
         }
         left = below;

@@ -21,7 +21,7 @@ mod counting;
 mod expanding;
 mod layering;
 mod levels;
-mod ranging;
+mod limits;
 mod rasters;
 mod shapes;
 mod taps;
@@ -32,11 +32,8 @@ pub use checking::check_settings;
 // Settings that are known to be lawful: the shape, and all of them.
 pub use shapes::{LawfulSettings, Shape};
 
-// Whether both ends of a range, and so all indices between, times their bin lie within 4,096 of 0.
-pub use ranging::range_ok;
-
-// A range with one index more.
-pub use ranging::widened;
+// Whether every index of a level, as pairs of bytes where they lie in a file, times its bin lies within 4,096 of 0.
+pub use limits::index_pairs_ok;
 
 // Kept: seven slots, of which the depth says how many count: the settings as the documents have them, and C hands them over (C interface).
 // Columns, rows, depth, kernel and the bin of each level in its slot (document 01, "Settings").
@@ -54,13 +51,6 @@ pub struct Settings {
 pub struct Dimensions {
     pub columns: u16,
     pub rows: u16,
-}
-
-// The lowest and the highest of some indices and 0.
-#[derive(Clone, Copy, Default, PartialEq, Eq)]
-pub struct IndexRange {
-    pub low: i16,
-    pub high: i16,
 }
 
 // T, the number of nodes of all levels. Refused: 1, 13, 14, 15, 2, 3.

@@ -8,26 +8,16 @@ ghost use Rattle.pyramid.specs.Inner.Rows.{Within};
 // In twentieths: a row for each kernel from 3 to 6, a column for each distance from the centre.
 const WEIGHTS: [[i32; 3]; 4] = [[6, 5, 2], [8, 5, 1], [10, 5, 0], [12, 5, -1]];
 
-// The weights of a kernel: of the centre, of the two beside it, and of the outer two.
+// The weight beside the centre, which all kernels share.
+const BESIDE: i32 = WEIGHTS[0][1];
+
+// The weights of a kernel, by half of the centre's. The outer weight is what that lacks of the one beside the centre.
 #[derive(Clone, Copy)]
 pub struct Weights {
     pub kernel: u16,
-    centre: i32,
-    beside: i32,
-    outer: i32,
+    half: i32,
     ghost lawful: { Kernel kernel },
-    ghost centre_is: { centre ≡ weight kernel 2 },
-    ghost beside_is: { beside ≡ weight kernel 3 },
-    ghost outer_is: { outer ≡ weight kernel 4 },
-}
-
-// The weights of three values: one for the outer two, one for the middle.
-#[derive(Clone, Copy)]
-pub struct Triple {
-    pub outer: i32,
-    pub middle: i32,
-    ghost outer_within: { Within 12 outer },
-    ghost middle_within: { Within 12 middle },
+    ghost half_is: { half ≡ pos kernel },
 }
 
 impl Weights {
@@ -36,52 +26,37 @@ impl Weights {
         ensures { result.kernel ≡ kernel }
     {
         let [centre, beside, outer] = WEIGHTS[usize::from(kernel - 3)];
-        Weights {
-            kernel,
-            centre,
-            beside,
-            outer,
-        }
+        let half = centre / 2;
+        prove!(beside == BESIDE && outer == BESIDE - half);
+        Weights { kernel, half }
     }
 
-    // The sum of five values, weighed by their distance from the one in the middle.
+    // The sum of five values, weighed by their distance from the one in the middle. Half of the centre's weight stands in the outer weights
+    // too, so that one product serves both.
     pub fn five(self, a: i32, b: i32, c: i32, d: i32, e: i32) -> i32
         requires { (Within 8388608 a) × (Within 8388608 b) × (Within 8388608 c) × (Within 8388608 d)
             × (Within 8388608 e) }
         ensures { result ≡ weight self.kernel 4 *ℤ (a +ℤ e) +ℤ weight self.kernel 3 *ℤ (b +ℤ d)
             +ℤ weight self.kernel 2 *ℤ c }
     {
-        self.outer * (a + e) + self.beside * (b + d) + self.centre * c
+        let outer = a + e;
+        self.half * (2 * c - outer) + BESIDE * (b + d + outer)
     }
 
     // What EXPAND takes at an even column or row: the centre and the outer two.
-    pub fn even(self) -> Triple
-        ensures { (result.outer ≡ weight self.kernel 4) × (result.middle ≡ weight self.kernel 2) }
+    pub fn even(self, a: i32, b: i32, c: i32) -> i32
+        requires { (Within 8388608 a) × (Within 8388608 b) × (Within 8388608 c) }
+        ensures { result ≡ weight self.kernel 4 *ℤ (a +ℤ c) +ℤ weight self.kernel 2 *ℤ b }
     {
-        Triple {
-            outer: self.outer,
-            middle: self.centre,
-        }
+        self.five(a, 0, b, 0, c)
     }
 
     // At an odd one: the two beside it.
-    pub fn odd(self) -> Triple
-        ensures { (result.outer ≡ weight self.kernel 3) × (result.middle ≡ pos 0) }
+    pub fn odd(self, a: i32, b: i32) -> i32
+        requires { (Within 8388608 a) × (Within 8388608 b) }
+        ensures { result ≡ weight self.kernel 3 *ℤ (a +ℤ b) }
     {
-        Triple {
-            outer: self.beside,
-            middle: 0,
-        }
-    }
-}
-
-impl Triple {
-    // The sum of three values, weighed.
-    pub fn three(self, a: i32, b: i32, c: i32) -> i32
-        requires { (Within 8388608 a) × (Within 8388608 b) × (Within 8388608 c) }
-        ensures { result ≡ self.outer *ℤ (a +ℤ c) +ℤ self.middle *ℤ b }
-    {
-        self.outer * (a + c) + self.middle * b
+        BESIDE * (a + b)
     }
 }
 

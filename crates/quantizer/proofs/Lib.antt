@@ -1,5 +1,9 @@
 pub mod Rounding
 pub mod Bins
-pub mod Reciprocals
 pub mod Division
+pub mod ShortDivision
+pub mod Halves
+pub mod Nearness
 pub mod Multiplication
+pub mod Ranges
+pub mod Values

@@ -1,35 +1,20 @@
 -- Division that rounds down, by a multiplication with the reciprocal. Assumes nothing.
-use mathlib.Core.Path.{◌≡◌}
+use mathlib.Core.Path.{◌≡◌, ◌∙◌}
 use Prim.Native.Nat.{ℕ, suc, ◌+◌, ◌*◌, ◌/◌, ◌%◌, ◌<◌, ◌≤◌}
 use native.Mathlib.Nat.{div-add-mod', mod-lt, div-le_self, le-div_iff_mul-le, div-lt_iff_lt-mul, mul-le-mul_right, mul-le-mul_left, lt_of_mul-lt-mul_right}
 use native.Mathlib.Omega.{arith}
-use lib.IntN.{ℤ, pos, nat_abs, ◌+ℤ◌, ◌-ℤ◌, ◌*ℤ◌}
-use lib.Signed.{◌≤ℤ◌, ◌<ℤ◌}
+use mathlib.Core.Bool.{true}
+use lib.Dec.{T}
+use lib.IntN.{ℤ, pos, neg_ℤ, nat_abs, ◌+ℤ◌, ◌-ℤ◌, ◌*ℤ◌}
+use lib.Signed.{◌≤ℤ◌, ◌<ℤ◌, non_neg, yes_non_neg}
 use mir.Syntax.{w32}
-use mir.Val.{SFits, to_z, of_z}
-use Rattle.std.proofs.lemmas.Int as std
-use Rattle.mathematics.proofs.Integers.{ints, all₂}
-use Rattle.quantizer.specs.Definitions.Reciprocals.{reciprocal}
+use mir.Val.{Fits, SFits, to_z}
+use Rattle.std.proofs.lemmas.Int.{ints}
+use Rattle.mathematics.proofs.Held.{held, held_is}
 use Rattle.quantizer.specs.Inner.Division.{Floor}
-use Rattle.quantizer.specs.Inner.Factors.{ReciprocalFactor}
-use Rattle.quantizer.proofs.Reciprocals.{reciprocal_factor}
-
--- ---- division of a number that k divisors were added to, so that it is not below 0
-
-raised_low : (d y q r : ℕ) (x k : ℤ) → q * d + r ≡ y → pos y ≡ x +ℤ pos d *ℤ k → ((pos q -ℤ k) *ℤ pos d) ≤ℤ x
-raised_low d y q r = all₂ _ (λ p n q m. simp ints (omega arith))
-
-raised_high : (d y q r : ℕ) (x k : ℤ) → q * d + r ≡ y → r < d → pos y ≡ x +ℤ pos d *ℤ k → x <ℤ ((pos q -ℤ k +ℤ pos 1) *ℤ pos d)
-raised_high d y q r = all₂ _ (λ p n q m. simp ints (omega arith))
-
-raised_floor : (d y : ℕ) (x k : ℤ) → 0 < d → pos y ≡ x +ℤ pos d *ℤ k → Floor x (pos d) (pos (y / d) -ℤ k)
-raised_floor d y x k h e =
-    record {
-      low = raised_low d y (y / d) (y % d) x k (div-add-mod' y d) e;
-      high = raised_high d y (y / d) (y % d) x k (div-add-mod' y d) (mod-lt y h) e;
-    }
-
--- ---- by a multiplication
+use Rattle.quantizer.specs.Inner.Reciprocals.{Reciprocal, near}
+use Rattle.quantizer.proofs.Division.{raised_floor}
+use Rattle.quantizer.proofs.Nearness.{near_range}
 
 module _ (d f y q r M : ℕ) (e : q * d + r ≡ y) (l : r < d) where
   product_from : M ≤ f * d → q * M ≤ y * f
@@ -40,57 +25,70 @@ module _ (d f y q r M : ℕ) (e : q * d + r ≡ y) (l : r < d) where
       let b : suc y ≤ suc q * d = omega arith in
       lt_of_mul-lt-mul_right d {m = y * f} {n = suc q * M} (omega (arith, mul-le-mul_left y a, mul-le-mul_right M b))
 
-multiplied : (d f y : ℕ) → ReciprocalFactor d f → 0 < d → y * d < 2147483648 → y * f / 2147483648 ≡ y / d
+-- a number short enough, doubled, times the reciprocal, over 2^32, is the number over d
+multiplied : (d f y : ℕ) → Reciprocal d f → 0 < d → y * d < 2147483648 → y * 2 * f / 4294967296 ≡ y / d
 multiplied d f y v h s =
     let e = div-add-mod' y d in
     let l = mod-lt y h in
-    let a : y / d ≤ y * f / 2147483648 = (le-div_iff_mul-le {k = 2147483648} (omega arith)).1 (product_from d f y (y / d) (y % d) 2147483648 e l (omega (arith, v.above))) in
-    let b : y * f / 2147483648 < suc (y / d) = (div-lt_iff_lt-mul {k = 2147483648} (omega arith)).1 (product_upto d f y (y / d) (y % d) 2147483648 e l v.near s) in
+    let from = product_from d f y (y / d) (y % d) 2147483648 e l (omega (arith, v.above)) in
+    let upto = product_upto d f y (y / d) (y % d) 2147483648 e l v.next s in
+    let a : y / d ≤ y * 2 * f / 4294967296 = (le-div_iff_mul-le {k = 4294967296} (omega arith)).1 (omega (arith, from)) in
+    let b : y * 2 * f / 4294967296 < suc (y / d) = (div-lt_iff_lt-mul {k = 4294967296} (omega arith)).1 (omega (arith, upto)) in
     omega (arith, a, b)
 
--- ---- what `Bin::multiply` computes
+-- ---- what `multiply` computes
 
--- x with h and 8,192 divisors added, as 32 bits hold it
+-- x with h and 8,192 divisors added, as 32 bits form it
 abbrev raised : ℤ → ℕ → ℕ → ℤ
-raised x h d = to_z w32 (of_z w32 (to_z w32 (of_z w32 (to_z w32 (of_z w32 x) +ℤ to_z w32 h)) +ℤ to_z w32 (of_z w32 (to_z w32 d *ℤ pos 8192))))
+raised x h d = held x +ℤ held (to_z w32 h +ℤ held (to_z w32 d *ℤ pos 8192))
 
--- and as a number
-abbrev y_of : ℤ → ℕ → ℕ → ℕ
-y_of x h d = nat_abs (x +ℤ pos h +ℤ pos d *ℤ pos 8192)
+module _ (x : ℤ) {h d : ℕ} (few : (h < d) × (d < 256)) (e : near x ≡ true) where
+  low : neg_ℤ (pos 8192) ≤ℤ x
+  low = (near_range x e).0
 
-pub record Short (x : ℤ) (h d f : ℕ) : Type 0 where
-  pub near : nat_abs x ≤ 8192
-  pub below : h < d
-  pub few : d < 256
-  pub factor : f ≡ reciprocal d
+  high : x <ℤ pos 8192
+  high = (near_range x e).1
 
--- n is the width that contracts see, and d the field
-pub short_of : (x : ℤ) {h d f n : ℕ} → nat_abs x ≤ 8192 → (h < n) × (n < 256) → d ≡ n → f ≡ reciprocal d → Short x h d f
-short_of x near short is factor = record { near = near; below = omega arith; few = omega arith; factor = factor }
+  -- as a number
+  abbrev y : ℕ
+  y = nat_abs (x +ℤ pos h +ℤ pos d *ℤ pos 8192)
 
-module _ {x : ℤ} {h d f : ℕ} (s : Short x h d f) where
   raised_is : raised x h d ≡ x +ℤ pos h +ℤ pos d *ℤ pos 8192
-  raised_is = omega (arith, std.ints, s.near)
+  raised_is = omega (arith, ints, low, high)
 
-  natural : pos (y_of x h d) ≡ x +ℤ pos h +ℤ pos d *ℤ pos 8192
-  natural = omega (arith, std.ints)
+  pub raised_fits : SFits w32 (raised x h d)
+  raised_fits = rw raised_is (omega (arith, ints, low, high))
 
-  upto : y_of x h d ≤ 2097407
-  upto = omega (arith, std.ints)
+  stored : held (raised x h d) ≡ x +ℤ pos h +ℤ pos d *ℤ pos 8192
+  stored = held_is raised_fits ∙ raised_is
 
-  quotient_is : nat_abs (raised x h d) * f / 2147483648 ≡ y_of x h d / d
-  quotient_is =
-      let r : ReciprocalFactor d f = rw s.factor (reciprocal_factor d (omega arith) s.few) in
-      rw raised_is (multiplied d f (y_of x h d) r (omega arith) (omega (arith, mul-le-mul_right d upto)))
+  natural : pos y ≡ x +ℤ pos h +ℤ pos d *ℤ pos 8192
+  natural = omega (arith, ints, low)
 
-  pub quotient_fits : SFits w32 (pos (nat_abs (raised x h d) * f / 2147483648))
-  quotient_fits = rw quotient_is (omega (arith, std.ints, div-le_self (y_of x h d) d, upto))
+  upto : y ≤ 2097406
+  upto = omega (arith, ints, natural, high)
 
-  pub result_fits : SFits w32 (to_z w32 (nat_abs (raised x h d) * f / 2147483648) -ℤ pos 8192)
-  result_fits = rw quotient_is (omega (arith, std.ints, div-le_self (y_of x h d) d, upto))
+  pub raised-natural : T (non_neg (held (raised x h d))) × Fits w32 (nat_abs (held (raised x h d)))
+  raised-natural = rw stored (yes_non_neg (omega (arith, ints, low)), record { fits = omega (arith, upto) })
 
-  value : to_z w32 (of_z w32 (to_z w32 (y_of x h d / d) -ℤ pos 8192)) ≡ pos (y_of x h d / d) -ℤ pos 8192
-  value = omega (arith, std.ints, div-le_self (y_of x h d) d, upto)
+  pub doubled_fits : Fits w32 (nat_abs (held (raised x h d)) * 2)
+  doubled_fits = rw stored (record { fits = omega (arith, upto) })
 
-  pub result_floor : Floor (x +ℤ pos h) (pos d) (to_z w32 (of_z w32 (to_z w32 (nat_abs (raised x h d) * f / 2147483648) -ℤ pos 8192)))
-  result_floor = rw (quotient_is, value) (raised_floor d (y_of x h d) (x +ℤ pos h) (pos 8192) (omega arith) natural)
+  quotient_upto : y / d ≤ 2097406
+  quotient_upto = omega (arith, div-le_self y d, upto)
+
+  result_is : to_z w32 (y / d) -ℤ pos 8192 ≡ pos (y / d) -ℤ pos 8192
+  result_is = omega (arith, ints, quotient_upto)
+
+  module _ {f : ℕ} (r : Reciprocal d f) where
+    quotient_is : nat_abs (held (raised x h d)) * 2 * f / 4294967296 ≡ y / d
+    quotient_is = rw stored (multiplied d f y r (omega arith) (omega (arith, mul-le-mul_right d upto)))
+
+    pub quotient_fits : SFits w32 (pos (nat_abs (held (raised x h d)) * 2 * f / 4294967296))
+    quotient_fits = rw quotient_is (omega (arith, ints, quotient_upto))
+
+    pub result_fits : SFits w32 (to_z w32 (nat_abs (held (raised x h d)) * 2 * f / 4294967296) -ℤ pos 8192)
+    result_fits = rw (quotient_is, result_is) (omega (arith, ints, quotient_upto))
+
+    pub result_floor : Floor (x +ℤ pos h) (pos d) (held (to_z w32 (nat_abs (held (raised x h d)) * 2 * f / 4294967296) -ℤ pos 8192))
+    result_floor = rw (held_is result_fits, quotient_is, result_is) (raised_floor d y (x +ℤ pos h) (pos 8192) (omega arith) natural)

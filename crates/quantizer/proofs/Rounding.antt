@@ -49,6 +49,20 @@ round_shift S x D h =
     let b : Between S D (round_div S D) = round_between S D h in
     round_is h (record { low = shift_low D S x (round_div S D) b.low; high = shift_high D S x (round_div S D) b.high })
 
+-- ---- four times the sum over four times the divisor
+
+four_low : (D : ℕ) (S q : ℤ) → (pos 2 *ℤ q *ℤ pos D) ≤ℤ (pos 2 *ℤ S +ℤ pos D) → (pos 2 *ℤ q *ℤ pos (4 * D)) ≤ℤ (pos 2 *ℤ (pos 4 *ℤ S) +ℤ pos (4 * D))
+four_low D = all₂ _ (λ p n q m. simp ints (omega arith))
+
+four_high : (D : ℕ) (S q : ℤ) → (pos 2 *ℤ S +ℤ pos D) <ℤ (pos 2 *ℤ (q +ℤ pos 1) *ℤ pos D)
+    → (pos 2 *ℤ (pos 4 *ℤ S) +ℤ pos (4 * D)) <ℤ (pos 2 *ℤ (q +ℤ pos 1) *ℤ pos (4 * D))
+four_high D = all₂ _ (λ p n q m. simp ints (omega arith))
+
+pub round_four : (S : ℤ) (D : ℕ) → 0 < D → round_div (pos 4 *ℤ S) (4 * D) ≡ round_div S D
+round_four S D h =
+    let b : Between S D (round_div S D) = round_between S D h in
+    round_is (omega arith) (record { low = four_low D S (round_div S D) b.low; high = four_high D S (round_div S D) b.high })
+
 whole_low : (D : ℕ) (x : ℤ) → (pos 2 *ℤ x *ℤ pos D) ≤ℤ (pos 2 *ℤ (x *ℤ pos D) +ℤ pos D)
 whole_low D = all₁ _ (λ p n. simp ints (omega arith))
 

@@ -1,3 +1,3 @@
 pub mod Rounding
 pub mod Bins
-pub mod Reciprocals
+pub mod Values

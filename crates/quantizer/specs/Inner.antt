@@ -1,2 +1,3 @@
 pub mod Division
-pub mod Factors
+pub mod Ranges
+pub mod Reciprocals

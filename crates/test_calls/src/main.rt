@@ -1,4 +1,4 @@
-// Checks rounding, the bin rule and worked pieces of document 01 by calls, and every refusal of coding and rebuilding in its order, with what it leaves in the lent buffers.
+// Checks rows of the quantizer and worked pieces of document 01 by calls, and every refusal of coding and rebuilding in its order, with what it leaves in the lent buffers.
 #![tactic(auto)]
 
 mod base;
@@ -8,7 +8,7 @@ mod combinations;
 mod faults;
 mod lengths;
 mod pieces;
-mod rounding;
+mod rows;
 mod shapes;
 
 use std::io;
@@ -16,14 +16,14 @@ use test_support::reporting::print_checks;
 
 fn main(rt: HostRuntime) -> io::Result<()> {
     let mut out = rt.stdout();
-    print_checks(&mut out, "rounding", &rounding::rounded())?;
-    print_checks(&mut out, "bin rule", &rounding::indices())?;
+    print_checks(&mut out, "rounding", &rows::rounded())?;
+    print_checks(&mut out, "bin rule", &rows::indices())?;
+    print_checks(&mut out, "limits of indices", &rows::limits())?;
     print_checks(&mut out, "piece A", &pieces::piece_a())?;
     print_checks(&mut out, "sizes", &pieces::sizes())?;
     print_checks(&mut out, "deepest depth", &pieces::deepest_depths())?;
     print_checks(&mut out, "index limit", &pieces::index_limit())?;
     print_checks(&mut out, "faulty settings", &faults::all())?;
-    print_checks(&mut out, "ranges of indices", &shapes::ranges())?;
     print_checks(&mut out, "lengths of buffers", &lengths::all())?;
     print_checks(
         &mut out,

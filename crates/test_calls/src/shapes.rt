@@ -1,5 +1,5 @@
-// The calls on a shape alone and on a level buffer alone, and the test of a range of indices.
-use pyramid::{Dimensions, IndexRange, Settings};
+// The calls on a shape alone and on a level buffer alone.
+use pyramid::{Dimensions, Settings};
 use refusals::Refusal;
 use std::array;
 use test_support::fillers::lawful_index;
@@ -22,37 +22,4 @@ pub(crate) fn check(t: &mut Checks, s: Settings, answer: Result<(), Refusal>) {
         t.check(pyramid::level_size(s, level) == shape.map(|()| size));
     }
     t.check(pyramid::check_levels(s, &levels) == answer);
-}
-
-// A range from a low to a high index, a bin, and whether every index of the range is lawful at it.
-const RANGES: [(i16, i16, u16, bool); 8] = [
-    (-16, 16, 255, true),
-    (-17, 16, 255, false),
-    (-16, 17, 255, false),
-    (-4096, 4096, 1, true),
-    (-4097, 0, 1, false),
-    (0, 4097, 1, false),
-    (-32768, 32767, 0, true),
-    (-32768, 32767, 65535, false),
-];
-
-// An index, and -3 to 5 widened to it.
-const WIDENED: [(i16, i16, i16); 5] = [
-    (4, -3, 5),
-    (6, -3, 6),
-    (-4, -4, 5),
-    (32767, -3, 32767),
-    (-32768, -32768, 5),
-];
-
-pub(crate) fn ranges() -> Checks {
-    let mut t = Checks::new();
-    for (low, high, bin, answer) in RANGES {
-        t.check(pyramid::range_ok(IndexRange { low, high }, bin) == answer);
-    }
-    for (index, low, high) in WIDENED {
-        let range = IndexRange { low: -3, high: 5 };
-        t.check(pyramid::widened(range, index) == IndexRange { low, high });
-    }
-    t
 }

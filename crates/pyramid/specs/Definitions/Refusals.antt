@@ -1,7 +1,8 @@
 -- Who is refused, and with which number (document 01, "Who can cause which refusal"; document 02, P1): the number of the first rule that is
 -- broken, in the order of each call; 0 where none is. Assumes nothing.
-use Rattle.std.specs.Prelude.{Bool, cond, List, [], ◌∷◌, ℕ, zero, suc, ◌*◌, leb, eqb, ℤ, pos, nat_abs, ◌*ℤ◌, length}
+use Rattle.std.specs.Prelude.{Bool, cond, List, [], ◌∷◌, ℕ, zero, suc, ◌*◌, leb, eqb, ℤ, nat_abs, length}
 use Rattle.mathematics.specs.Definitions.Tests.{all}
+use Rattle.quantizer.specs.Definitions.Values.{value_ok}
 use Rattle.pyramid.specs.declared.Settings.{Settings}
 use Rattle.pyramid.specs.Definitions.Settings.{size_ok, depth_ok, divides, kernel_ok, bins_ok}
 use Rattle.pyramid.specs.Definitions.Sizes.{total}
@@ -23,8 +24,8 @@ abbrev pub limit : ℕ
 limit = 4096
 
 -- an index times its bin lies within ±4,096
-unfoldable pub index_ok : ℕ → ℤ → Bool
-index_ok n m = leb (nat_abs (m *ℤ pos n)) limit
+abbrev pub index_ok : ℕ → ℤ → Bool
+index_ok = value_ok limit
 
 module _ (s : Settings) where
   -- 1: C or R is outside 2 to 129; 13: the depth is above 6; 14: 2^N does not divide C - 1; 15: it does not divide R - 1; 2: the kernel

@@ -6,13 +6,13 @@ use Rattle.pyramid.proofs.expanding.expand_sums.Goals as goal
 pub returns-then-j-eq0 : goal.returns-then-j-eq0
 returns-then-j-eq0 c =
     let level = c.args.level in
-    c.weigh_rows.ensures
-    ∙ even_columns c.args.level.weights.kernel level.columns level.rows c.args.j level.values.now c.even.ensures c.if-j-eq0.true
+    c.weigh_three.ensures
+    ∙ even_columns level.weights.kernel level.columns level.rows c.args.j level.values.now c.if-j-eq0.true
     c.row.ensures.is c.row-here.ensures.is c.row-next.ensures.is _ c.requires.j_bound.1
 
 pub returns-else-j-eq0 : goal.returns-else-j-eq0
 returns-else-j-eq0 c =
     let level = c.args.level in
-    c.weigh_rows-else-j-eq0.ensures
-    ∙ odd_columns c.args.level.weights.kernel level.columns level.rows c.args.j level.values.now c.odd.ensures (omega (arith, c.if-j-eq0.false))
+    c.weigh_two.ensures
+    ∙ odd_columns level.weights.kernel level.columns level.rows c.args.j level.values.now (omega (arith, c.if-j-eq0.false))
     c.row-here.ensures.is c.row-next.ensures.is _ c.requires.j_bound.1

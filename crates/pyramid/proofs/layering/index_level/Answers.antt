@@ -87,7 +87,7 @@ index_row-requires-clause-indices_within c =
 pub loop-j-preserved : goal.loop-j-preserved
 loop-j-preserved c =
     let n = (goal.at.loop-j-preserved c).In-loop-j in
-    let long : length c.index_row.new.indices ≡ n.columns-columns.result = ap length c.index_row.ensures ∙ length-tabulate _ _ ∙ written n in
+    let long : length c.index_row.new.indices ≡ n.columns-columns.result = ap length c.index_row.ensures.made ∙ length-tabulate _ _ ∙ written n in
     index_row n.requires (turn n) c.predict_row.ensures n.loop-j.invariant (place n) (averages n) (written n ∙ across n)
     (lent_back (at n) (at n + n.columns-columns.result - at n) n.loop-j.levels c.index_row.new.indices (omega (arith, long))
-    ∙ rw (c.index_row.ensures, n.bin-bin.ensures))
+    ∙ rw (c.index_row.ensures.made, n.bin-bin.ensures))

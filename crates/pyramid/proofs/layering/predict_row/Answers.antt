@@ -58,7 +58,8 @@ pub expand_row-requires-clause-j_bound : goal.expand_row-requires-clause-j_bound
 expand_row-requires-clause-j_bound c =
     let n = (goal.at.expand_row-requires-clause-j_bound c).After-raster in
     let a = c.args in
-    below_sizes a.level.settings a.level.number a.j a.before.now a.level.lawful (below (r n)) c.requires.lengths.1 (held n) (along n) (across n) _ c.requires.lengths.0 c.requires.lengths.2
+    let (turn, long, wide) = below_sizes a.level.settings a.level.number a.j a.before.now a.level.lawful (below (r n)) c.requires.lengths.1 (held n) (along n) (across n) _ c.requires.lengths.0 c.requires.lengths.2 in
+    (turn, long, omega (arith, wide, c.requires.room))
 
 pub expand_row-requires-clause-small : goal.expand_row-requires-clause-small
 expand_row-requires-clause-small c =

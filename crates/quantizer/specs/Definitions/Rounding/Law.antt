@@ -12,11 +12,11 @@ pub record Between (S : ℤ) (D : ℕ) (q : ℤ) : Type 0 where
 
 -- ---- `shr_z` rounds down
 
-floor_low : (z : ℤ) (d : ℕ) → 0 < d → (shr_z z d *ℤ pos d) ≤ℤ z
+pub floor_low : (z : ℤ) (d : ℕ) → 0 < d → (shr_z z d *ℤ pos d) ≤ℤ z
 floor_low (pos a) d h = simp ints (omega (arith, div-add-mod' a d))
 floor_low (negsuc a) d h = simp ints (omega (arith, div-add-mod' a d, mod-lt a h))
 
-floor_high : (z : ℤ) (d : ℕ) → 0 < d → z <ℤ (shr_z z d *ℤ pos d +ℤ pos d)
+pub floor_high : (z : ℤ) (d : ℕ) → 0 < d → z <ℤ (shr_z z d *ℤ pos d +ℤ pos d)
 floor_high (pos a) d h = simp ints (omega (arith, div-add-mod' a d, mod-lt a h))
 floor_high (negsuc a) d h = simp ints (omega (arith, div-add-mod' a d, mod-lt a h))
 

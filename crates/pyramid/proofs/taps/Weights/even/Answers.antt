@@ -1,7 +1,8 @@
--- `pyramid::taps::Weights::even` meets its contract: the weights are read as they are. Assumes nothing.
-use Rattle.pyramid.proofs.TapSums.{within_held}
-use Rattle.pyramid.proofs.KernelWeights.{centre_small, outer_small}
+-- `pyramid::taps::Weights::even` meets its contract: what `five` makes of these with 0 beside the middle one. Assumes nothing.
+use Rattle.std.proofs.Common.{◌∙◌, rules}
+use Rattle.mathematics.proofs.Held.{held_is}
+use Rattle.pyramid.proofs.TapSums.{even_passed}
 use Rattle.pyramid.proofs.taps.Weights.even.Goals as goal
 
-pub invariant_of-result : goal.invariant_of-result
-invariant_of-result c = record { outer_within = within_held tt (outer_small c.args.self); middle_within = within_held tt (centre_small c.args.self) }
+pub returns : goal.returns
+returns c = let (a, b, e) = c.requires in held_is (search rules) ∙ c.five.ensures ∙ even_passed c.args.self.kernel a b e

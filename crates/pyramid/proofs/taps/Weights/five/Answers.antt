@@ -1,30 +1,20 @@
--- `pyramid::taps::Weights::five` meets its contract: every step fits. Assumes nothing.
-use Rattle.std.proofs.Common.{◌∙◌}
-use Rattle.pyramid.proofs.TapSums.{outer_fits, middle_fits, four_fits, five_fits, five_held}
-use Rattle.pyramid.proofs.KernelWeights.{centre_small, beside_small, outer_small}
+-- `pyramid::taps::Weights::five` meets its contract: every step fits, and the table's weights are the paper's formula. Assumes nothing.
+use Rattle.pyramid.proofs.TapSums.{product_fits, five_fits, five_held}
+use Rattle.pyramid.proofs.Weights.{weight_rule}
 use Rattle.pyramid.proofs.taps.Weights.five.Goals as goal
 
-pub overflow_mul-result : goal.overflow_mul-result
-overflow_mul-result c = outer_fits c.requires.0 c.requires.4 (outer_small c.args.self)
-
 pub overflow_mul-result-2 : goal.overflow_mul-result-2
-overflow_mul-result-2 c = outer_fits c.requires.1 c.requires.3 (beside_small c.args.self)
+overflow_mul-result-2 c =
+    let (a, b, m, d, e) = c.requires in
+    product_fits c.args.self.half_is c.args.self.lawful.most a b m d e
 
 pub overflow_add-result-3 : goal.overflow_add-result-3
 overflow_add-result-3 c =
     let (a, b, m, d, e) = c.requires in
-    four_fits (outer_small c.args.self) a e (beside_small c.args.self) b d (centre_small c.args.self) m
-
-pub overflow_mul-result-3 : goal.overflow_mul-result-3
-overflow_mul-result-3 c = middle_fits (centre_small c.args.self) c.requires.2
-
-pub overflow_add-result-4 : goal.overflow_add-result-4
-overflow_add-result-4 c =
-    let (a, b, m, d, e) = c.requires in
-    five_fits (outer_small c.args.self) a e (beside_small c.args.self) b d (centre_small c.args.self) m
+    five_fits c.args.self.half_is c.args.self.lawful.most a b m d e
 
 pub returns : goal.returns
 returns c =
     let (a, b, m, d, e) = c.requires in
-    let w = c.args.self in
-    five_held (outer_small w) a e (beside_small w) b d (centre_small w) m ∙ rw (w.outer_is, w.beside_is, w.centre_is)
+    let rule = weight_rule c.args.self.lawful in
+    rw (rule.outer.1, rule.beside.1, rule.centre) (five_held c.args.self.half_is c.args.self.lawful.most a b m d e)

@@ -1,8 +1,7 @@
--- `pyramid::taps::Weights::odd` meets its contract: the weight is read as it is. Assumes nothing.
-use Rattle.std.proofs.Common.{arith}
-use Rattle.pyramid.proofs.TapSums.{within_held}
-use Rattle.pyramid.proofs.KernelWeights.{beside_small}
+-- `pyramid::taps::Weights::odd` meets its contract: 5 is the weight beside the centre. Assumes nothing.
+use Rattle.pyramid.proofs.TapSums.{odd_held}
+use Rattle.pyramid.proofs.Weights.{weight_rule}
 use Rattle.pyramid.proofs.taps.Weights.odd.Goals as goal
 
-pub invariant_of-result : goal.invariant_of-result
-invariant_of-result c = record { outer_within = within_held tt (beside_small c.args.self); middle_within = record { small = omega arith } }
+pub returns : goal.returns
+returns c = rw (weight_rule c.args.self.lawful).beside.1 (odd_held c.requires.0 c.requires.1)

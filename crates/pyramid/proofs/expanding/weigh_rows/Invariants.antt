@@ -1,9 +1,0 @@
--- What the loop of `pyramid::expanding::weigh_rows` keeps.
-use Rattle.std.proofs.Common.{length, pos, get_or}
-use Rattle.mathematics.proofs.Filling.{Filling}
-use Rattle.pyramid.proofs.ExpandTaps.{weighed}
-use Rattle.pyramid.proofs.expanding.weigh_rows.Given as goal
-
-abbrev pub invariant-loop-x : goal.invariant-loop-x
-invariant-loop-x l =
-    Filling 0 (length l.initial.sums) (λ x. weighed l.weights.outer l.weights.middle (get_or l.a x (pos 0)) (get_or l.b x (pos 0)) (get_or l.c x (pos 0))) l.initial.sums l.sums l.x

@@ -1,0 +1,23 @@
+-- `pyramid::expanding::weigh_two` meets its contract: after x turns the first x sums are written. Assumes nothing.
+use Rattle.std.proofs.Common.{refl, ◌∙◌, arith}
+use borrow.Author.Rules.{sfits_of}
+use Rattle.mathematics.proofs.Held.{held_is}
+use Rattle.mathematics.proofs.Filling.{filling_start, filling_next}
+use Rattle.pyramid.proofs.LentParts.{filled_whole}
+use Rattle.pyramid.proofs.TapSums.{within_more}
+use Rattle.pyramid.proofs.ExpandTaps.{two_passed}
+use Rattle.pyramid.proofs.expanding.weigh_two.Goals as goal
+
+pub loop-x-init : goal.loop-x-init
+loop-x-init c = filling_start _ _ _ _
+
+pub loop-x-preserved : goal.loop-x-preserved
+loop-x-preserved c =
+    let (a, b) = c.requires.small in
+    let x = c.loop-x.x in
+    filling_next c.loop-x.invariant (omega arith) (omega arith)
+    (held_is (sfits_of c.odd.type_inv) ∙ c.odd.ensures ∙ two_passed c.args.weights.kernel (within_more (omega arith) (a x)) (within_more (omega arith) (b x)))
+    (omega arith)
+
+pub returns : goal.returns
+returns c = filled_whole c.loop-x.invariant (omega arith) refl
