@@ -1,5 +1,5 @@
 -- The rules of the table of weights, each by one test over the whole table: the paper's formula, which nothing else meets, symmetry, sums,
--- sums of sizes, and the same for the taps that EXPAND takes at even and at odd columns. Assumes nothing.
+-- sums of sizes, the same for the taps that EXPAND takes at even and at odd columns, and half of the centre's weight. Assumes nothing.
 use mathlib.Core.Path.{◌≡◌, sym, ap, ◌∙◌, fun_ext}
 use mathlib.Core.Bool.{Bool, false, cond}
 use Prim.Native.Nat.{ℕ, zero, suc, ◌+◌, ◌-◌, ◌*◌, ◌%◌, ◌≤◌, ◌<◌}
@@ -8,11 +8,16 @@ use native.Mathlib.Omega.{arith}
 use lib.Dec.{T, leb, eqb, leb→le, eqb→eq}
 use lib.IntN.{ℤ, pos, negsuc, nat_abs, ◌-ℤ◌}
 use lib.ListN.{get_or}
+use lib.Signed.{quot_z}
+use mir.Syntax.{w32}
+use mir.Val.{SFits}
+use Rattle.std.proofs.lemmas.Int.{ints}
 use mathlib.Core.List.{[], ◌∷◌}
 use Rattle.mathematics.specs.Definitions.Tests.{all_below}
 use Rattle.mathematics.specs.Definitions.Sums.{sum}
 use Rattle.mathematics.proofs.Tests.{below_at, between_at}
 use Rattle.mathematics.proofs.Sums.{total}
+use Rattle.mathematics.proofs.Held.{held, held_is, natural_fits}
 use Rattle.mathematics.specs.Definitions.Distances.{distance}
 use Rattle.pyramid.specs.Definitions.Weights.{weights, weight, WeightRule}
 use Rattle.pyramid.specs.Definitions.Steps.{even_weight}
@@ -117,3 +122,24 @@ multipliers k least most = let h : Kernel k = record { least = least; most = mos
 
 pub hundredths_most : {k : ℕ} → Kernel k → hundredths k ≤ 196
 hundredths_most {k} h = leb→le (hundredths k) 196 (at_kernel (λ k. leb (hundredths k) 196) (unfold all_below hundredths in tt) h)
+
+-- ---- half of the centre's weight, as `Weights::new` forms it
+
+abbrev half : ℕ → ℤ
+half n = quot_z (held (get_or (get_or weights n []) 0 (pos 0))) (pos 2)
+
+module _ {k n : ℕ} (h : Kernel k) (e : n ≡ k - 3) where
+  half_row : half n ≡ pos (3 + n)
+  half_row = is_eq (half n) (pos (3 + n)) (below_at 4 (λ n. is (half n) (pos (3 + n))) (unfold all_below is weights in tt) n (omega (arith, h.least, h.most, e)))
+
+  half_is : half n ≡ pos k
+  half_is = half_row ∙ ap pos (omega (arith, h.least, e))
+
+  pub half_fits : SFits w32 (half n)
+  half_fits = rw half_is (natural_fits (record { fits = omega (arith, h.most) }))
+
+  pub half_held : held (half n) ≡ pos k
+  half_held = held_is half_fits ∙ half_is
+
+  pub outer_fits : SFits w32 (pos 5 -ℤ held (half n))
+  outer_fits = rw half_held (omega (arith, ints, h.most))

@@ -1,6 +1,7 @@
 pub mod Rounding
 pub mod Bins
 pub mod Division
+pub mod WideDivision
 pub mod ShortDivision
 pub mod Halves
 pub mod Nearness

@@ -7,7 +7,7 @@ use mathlib.Core.Bool.{true}
 use lib.Dec.{T}
 use lib.IntN.{ℤ, pos, neg_ℤ, nat_abs, ◌+ℤ◌, ◌-ℤ◌, ◌*ℤ◌}
 use lib.Signed.{◌≤ℤ◌, ◌<ℤ◌, non_neg, yes_non_neg}
-use mir.Syntax.{w32}
+use mir.Syntax.{w32, w64}
 use mir.Val.{Fits, SFits, to_z}
 use Rattle.std.proofs.lemmas.Int.{ints}
 use Rattle.mathematics.proofs.Held.{held, held_is}
@@ -24,6 +24,13 @@ module _ (d f y q r M : ℕ) (e : q * d + r ≡ y) (l : r < d) where
   product_upto a s =
       let b : suc y ≤ suc q * d = omega arith in
       lt_of_mul-lt-mul_right d {m = y * f} {n = suc q * M} (omega (arith, mul-le-mul_left y a, mul-le-mul_right M b))
+
+-- 2^31 over d, rounded down, and 1 more
+pub one_more : {d : ℕ} → 0 < d → Reciprocal d (2147483648 / d + 1)
+one_more {d} h =
+    let e = div-add-mod' 2147483648 d in
+    let l = mod-lt 2147483648 h in
+    record { above = omega (arith, e, l); next = omega (arith, e) }
 
 -- a number short enough, doubled, times the reciprocal, over 2^32, is the number over d
 multiplied : (d f y : ℕ) → Reciprocal d f → 0 < d → y * d < 2147483648 → y * 2 * f / 4294967296 ≡ y / d
@@ -53,6 +60,12 @@ module _ (x : ℤ) {h d : ℕ} (few : (h < d) × (d < 256)) (e : near x ≡ true
   abbrev y : ℕ
   y = nat_abs (x +ℤ pos h +ℤ pos d *ℤ pos 8192)
 
+  pub divisors_fit : SFits w32 (to_z w32 d *ℤ pos 8192)
+  divisors_fit = omega (arith, ints)
+
+  pub added_fits : SFits w32 (to_z w32 h +ℤ held (to_z w32 d *ℤ pos 8192))
+  added_fits = omega (arith, ints)
+
   raised_is : raised x h d ≡ x +ℤ pos h +ℤ pos d *ℤ pos 8192
   raised_is = omega (arith, ints, low, high)
 
@@ -73,6 +86,12 @@ module _ (x : ℤ) {h d : ℕ} (few : (h < d) × (d < 256)) (e : near x ≡ true
 
   pub doubled_fits : Fits w32 (nat_abs (held (raised x h d)) * 2)
   doubled_fits = rw stored (record { fits = omega (arith, upto) })
+
+  pub factor_fits : Fits w64 (nat_abs (held (raised x h d)) * 2)
+  factor_fits = rw stored (record { fits = omega (arith, upto) })
+
+  pub product_fits : {f : ℕ} → Fits w32 f → Fits w64 (nat_abs (held (raised x h d)) * 2 * f)
+  product_fits {f} v = rw stored (record { fits = omega (arith, v.fits, mul-le-mul_right f upto) })
 
   quotient_upto : y / d ≤ 2097406
   quotient_upto = omega (arith, div-le_self y d, upto)
