@@ -35,7 +35,7 @@ const ANSWERS: [(usize, usize, usize, Result<(), Refusal>); 11] = [
 // Both calls with buffers of each length.
 pub(crate) fn all() -> Checks {
     let mut t = Checks::new();
-    for (picture, levels, work, answer) in ANSWERS {
+    for &(picture, levels, work, answer) in &ANSWERS {
         let coding = Case {
             settings: BASE,
             lengths: Lengths {

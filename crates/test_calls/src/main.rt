@@ -16,24 +16,23 @@ use test_support::reporting::print_checks;
 
 fn main(rt: HostRuntime) -> io::Result<()> {
     let mut out = rt.stdout();
-    print_checks(&mut out, "rounding", &rows::rounded())?;
-    print_checks(&mut out, "bin rule", &rows::indices())?;
-    print_checks(&mut out, "limits of indices", &rows::limits())?;
-    print_checks(&mut out, "piece A", &pieces::piece_a())?;
-    print_checks(&mut out, "sizes", &pieces::sizes())?;
-    print_checks(&mut out, "deepest depth", &pieces::deepest_depths())?;
-    print_checks(&mut out, "index limit", &pieces::index_limit())?;
-    print_checks(&mut out, "faulty settings", &faults::all())?;
-    print_checks(&mut out, "lengths of buffers", &lengths::all())?;
-    print_checks(
-        &mut out,
-        "combinations of faults, coding",
-        &combinations::coding(),
-    )?;
-    print_checks(
-        &mut out,
-        "combinations of faults, rebuilding",
-        &combinations::rebuilding(),
-    )?;
+    for (group, t) in [
+        ("rounding", rows::rounded()),
+        ("bin rule", rows::indices()),
+        ("limits of indices", rows::limits()),
+        ("piece A", pieces::piece_a()),
+        ("sizes", pieces::sizes()),
+        ("deepest depth", pieces::deepest_depths()),
+        ("index limit", pieces::index_limit()),
+        ("faulty settings", faults::all()),
+        ("lengths of buffers", lengths::all()),
+        ("combinations of faults, coding", combinations::coding()),
+        (
+            "combinations of faults, rebuilding",
+            combinations::rebuilding(),
+        ),
+    ] {
+        print_checks(&mut out, group, &t)?;
+    }
     Ok(())
 }

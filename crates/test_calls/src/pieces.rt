@@ -150,7 +150,7 @@ const REFUSED_SIZES: [(u16, u16, u16, Refusal); 13] = [
 
 pub(crate) fn sizes() -> Checks {
     let mut t = Checks::new();
-    for (columns, rows, depth, refusal) in REFUSED_SIZES {
+    for &(columns, rows, depth, refusal) in &REFUSED_SIZES {
         let s = settings(columns, rows, depth, 4, 1, 1);
         faults::check(&mut t, s, Err(refusal));
     }
@@ -178,7 +178,7 @@ const DEEPEST: [(u16, u16, Result<u16, Refusal>); 13] = [
 // Refusal and depth are a check each: the program's output states the count of checks.
 pub(crate) fn deepest_depths() -> Checks {
     let mut t = Checks::new();
-    for (columns, rows, answer) in DEEPEST {
+    for &(columns, rows, answer) in &DEEPEST {
         let d = pyramid::deepest_depth(columns, rows);
         t.check(d.err() == answer.err());
         t.check(d.ok() == answer.ok());

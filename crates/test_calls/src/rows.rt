@@ -133,7 +133,7 @@ const LIMITS: [(i16, i16, u16, u16, bool); 12] = [
 
 pub(crate) fn limits() -> Checks {
     let mut t = Checks::new();
-    for (one, other, bin, limit, answer) in LIMITS {
+    for &(one, other, bin, limit, answer) in &LIMITS {
         for at in 0..PLACES {
             let mut row: [i16; 9] = [0; 9];
             let mut pairs: [[u8; 2]; 9] = [[0; 2]; 9];

@@ -84,7 +84,7 @@ const INDICES: [(u16, usize, i16, u16, Result<(), u16>); 14] = [
 
 pub(crate) fn indices() -> Checks {
     let mut t = Checks::new();
-    for (bin, place, index, word, e) in INDICES {
+    for &(bin, place, index, word, e) in &INDICES {
         let put = Put { place, index, word };
         check(&mut t, bin, [code(0, 0), code(2, 9)], put, e);
     }
@@ -124,7 +124,7 @@ const PUT: Put = Put {
 // Each before the drier, with a fault code of 7 at the press; and at the press, with 1 percent before the drier.
 pub(crate) fn readings() -> Checks {
     let mut t = Checks::new();
-    for (kind, number, e) in READINGS {
+    for &(kind, number, e) in &READINGS {
         let tried = code(kind, number);
         check(&mut t, 3, [tried, code(2, 7)], PUT, e);
         check(&mut t, 3, [code(1, 0x3F80_0000), tried], PUT, e);

@@ -19,27 +19,31 @@ use test_support::reporting::print_checks;
 
 fn main(rt: HostRuntime) -> io::Result<()> {
     let mut out = rt.stdout();
-    print_checks(&mut out, "deepest depth", &numbers::depths())?;
-    print_checks(&mut out, "nodes and sizes", &numbers::sizes())?;
-    print_checks(&mut out, "bounds", &numbers::level_bounds())?;
-    print_checks(&mut out, "refused settings", &numbers::refusals())?;
-    print_checks(&mut out, "coding and rebuilding", &pictures::accepted())?;
-    print_checks(&mut out, "limits of rebuilding", &pictures::limits())?;
-    print_checks(&mut out, "refused calls", &refused::all())?;
-    print_checks(&mut out, "small file, writing", &files::written())?;
-    print_checks(&mut out, "small file, refused settings", &files::unset())?;
-    print_checks(&mut out, "small file, reading", &files::small())?;
-    print_checks(&mut out, "file of three levels", &files::three())?;
-    print_checks(&mut out, "limits of indices", &limits::indices())?;
-    print_checks(&mut out, "limits of readings", &limits::readings())?;
-    print_checks(&mut out, "PGM sizes", &pgm_writing::sizes())?;
-    print_checks(&mut out, "PGM, writing", &pgm_writing::accepted())?;
-    print_checks(&mut out, "PGM, refused writing", &pgm_writing::refusals())?;
-    print_checks(&mut out, "PGM, reading", &pgm_reading::files())?;
-    print_checks(&mut out, "PGM, other lengths", &pgm_reading::lengths())?;
-    print_checks(&mut out, "PGM, bad headers", &pgm_reading::headers())?;
-    print_checks(&mut out, "PGM, refused reading", &pgm_reading::refusals())?;
-    print_checks(&mut out, "PGM, order of refusals", &pgm_reading::order())?;
-    print_checks(&mut out, "PGM to bale file to PGM", &round::all())?;
+    for (group, t) in [
+        ("deepest depth", numbers::depths()),
+        ("nodes and sizes", numbers::sizes()),
+        ("bounds", numbers::level_bounds()),
+        ("refused settings", numbers::refusals()),
+        ("coding and rebuilding", pictures::accepted()),
+        ("limits of rebuilding", pictures::limits()),
+        ("refused calls", refused::all()),
+        ("small file, writing", files::written()),
+        ("small file, refused settings", files::unset()),
+        ("small file, reading", files::small()),
+        ("file of three levels", files::three()),
+        ("limits of indices", limits::indices()),
+        ("limits of readings", limits::readings()),
+        ("PGM sizes", pgm_writing::sizes()),
+        ("PGM, writing", pgm_writing::accepted()),
+        ("PGM, refused writing", pgm_writing::refusals()),
+        ("PGM, reading", pgm_reading::files()),
+        ("PGM, other lengths", pgm_reading::lengths()),
+        ("PGM, bad headers", pgm_reading::headers()),
+        ("PGM, refused reading", pgm_reading::refusals()),
+        ("PGM, order of refusals", pgm_reading::order()),
+        ("PGM to bale file to PGM", round::all()),
+    ] {
+        print_checks(&mut out, group, &t)?;
+    }
     Ok(())
 }

@@ -111,7 +111,7 @@ const HEADERS: [&[u8]; 18] = [
 
 pub(crate) fn headers() -> Checks {
     let mut t = Checks::new();
-    for file in HEADERS {
+    for &file in &HEADERS {
         check_both(&mut t, file, 6, Err(16));
     }
     t

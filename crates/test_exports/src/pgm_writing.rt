@@ -22,7 +22,7 @@ const SIZES: [(u16, u16, Result<usize, u16>); 10] = [
 
 pub(crate) fn sizes() -> Checks {
     let mut t = Checks::new();
-    for (columns, rows, e) in SIZES {
+    for &(columns, rows, e) in &SIZES {
         let before = usize::from(BEFORE);
         let got = answered(before, |size| {
             pictures::lepsarvu_pgm_size(columns, rows, size)
@@ -94,7 +94,7 @@ const ACCEPTED: [(u16, u16, &[u8], usize, &[u8]); 5] = [
 
 pub(crate) fn accepted() -> Checks {
     let mut t = Checks::new();
-    for (columns, rows, pixels, room, file) in ACCEPTED {
+    for &(columns, rows, pixels, room, file) in &ACCEPTED {
         let p = Picture {
             columns,
             rows,
@@ -133,7 +133,7 @@ const REFUSED: [(u16, u16, &[u8], usize, u16); 16] = [
 
 pub(crate) fn refusals() -> Checks {
     let mut t = Checks::new();
-    for (columns, rows, pixels, room, refusal) in REFUSED {
+    for &(columns, rows, pixels, room, refusal) in &REFUSED {
         let p = Picture {
             columns,
             rows,

@@ -69,7 +69,7 @@ fn check_no_room(t: &mut Checks, number: u32, n: usize) {
 // The 11 numbers.
 pub(crate) fn check_all() -> Checks {
     let mut t = Checks::new();
-    for (number, digits) in NUMBERS {
+    for &(number, digits) in &NUMBERS {
         t.check(decimals::digit_count(number) == digits.len());
         check_room(&mut t, number, digits);
         check_no_room(&mut t, number, digits.len());
