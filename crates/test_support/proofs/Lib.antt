@@ -1,4 +1,5 @@
 mod Searching
+mod Lookups
 mod Filled
 mod Choosing
 mod FaultySettings
