@@ -7,6 +7,7 @@ use mathlib.Core.Bool.{true}
 use lib.Dec.{T}
 use lib.IntN.{ℤ, pos, neg_ℤ, nat_abs, ◌+ℤ◌, ◌-ℤ◌, ◌*ℤ◌}
 use lib.Signed.{◌≤ℤ◌, ◌<ℤ◌, non_neg, yes_non_neg}
+use mir.Facts.{Fits-widen}
 use mir.Syntax.{w32, w64}
 use mir.Val.{Fits, SFits, to_z}
 use Rattle.std.proofs.lemmas.Int.{ints}
@@ -88,7 +89,7 @@ module _ (x : ℤ) {h d : ℕ} (few : (h < d) × (d < 256)) (e : near x ≡ true
   doubled_fits = rw stored (record { fits = omega (arith, upto) })
 
   pub factor_fits : Fits w64 (nat_abs (held (raised x h d)) * 2)
-  factor_fits = rw stored (record { fits = omega (arith, upto) })
+  factor_fits = Fits-widen tt doubled_fits
 
   pub product_fits : {f : ℕ} → Fits w32 f → Fits w64 (nat_abs (held (raised x h d)) * 2 * f)
   product_fits {f} v = rw stored (record { fits = omega (arith, v.fits, mul-le-mul_right f upto) })

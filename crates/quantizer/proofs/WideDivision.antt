@@ -9,7 +9,7 @@ use mir.Syntax.{w16, w32, w64}
 use mir.Val.{Fits, SFits, to_z, of_z}
 use Rattle.std.proofs.lemmas.Int.{ints}
 use Rattle.std.specs.Int.{int_div_euclid}
-use Rattle.mathematics.proofs.Held.{held, held_is}
+use Rattle.mathematics.proofs.Held.{held, held_is, natural_fits}
 use Rattle.quantizer.specs.Inner.Division.{Floor}
 use Rattle.quantizer.proofs.Division.{euclid_floor, floor_fits}
 
@@ -17,7 +17,7 @@ natural_is : {n : ℕ} → Fits w16 n → to_z w64 n ≡ pos n
 natural_is f = to_z_pos w64 (omega arith)
 
 pub natural_wide : {n : ℕ} → Fits w16 n → SFits w64 (pos n)
-natural_wide f = record { sfits = omega arith }
+natural_wide f = sfits_widen tt (natural_fits f)
 
 module _ {x : ℤ} (fx : SFits w32 x) {h d : ℕ} (fh : Fits w16 h) (fd : Fits w16 d) where
   pub value_fits : SFits w64 (held x)
