@@ -13,6 +13,7 @@ use lib.ListN.{length, get_or, drop, replicate, length-replicate}
 use lib.Seq.{take_at}
 use Rattle.mathematics.specs.Definitions.Distances.{distance}
 use Rattle.pyramid.specs.declared.Settings.{Settings}
+use Rattle.pyramid.specs.declared.Manner.{Manner}
 use Rattle.pyramid.specs.Definitions.Sizes.{total}
 use Rattle.pyramid.specs.Definitions.Bound.{bound_at}
 use Rattle.pyramid.specs.Definitions.Buffers.{Bytes}
@@ -69,27 +70,28 @@ module _ (first : List ℕ) (note : Note) (noted : T (note_ok note)) (drier : He
   -- what is known of the file at hand: the picture that was coded into it, and how near it lies
   record Holds (within : ℕ) (bytes : List ℕ) : Type 0 where
     settings : Settings
+    manner : Manner
     picture : List ℕ
     levels : List ℤ
     work : List ℤ
     legal : Bytes picture
     seven : length settings.bins ≡ 7
-    coded : (coding settings picture levels work).answer ≡ 0
-    is : bytes ≡ file_of settings note (coding settings picture levels work).levels
-    near : (p : ℕ) → distance (get_or picture p 0) (get_or first p 0) + bound_at settings 0 ≤ within
+    coded : (coding settings manner picture levels work).answer ≡ 0
+    is : bytes ≡ file_of settings note (coding settings manner picture levels work).levels
+    near : (p : ℕ) → distance (get_or picture p 0) (get_or first p 0) + bound_at settings manner 0 ≤ within
 
   module _ {within : ℕ} {bytes : List ℕ} (h : Holds within bytes) where
     abbrev s : Settings
     s = h.settings
 
     abbrev m : List ℤ
-    m = (coding s h.picture h.levels h.work).levels
+    m = (coding s h.manner h.picture h.levels h.work).levels
 
     held : Held s note m
-    held = record { seven = h.seven; drier = drier; press = press; short = coded_short s h.picture h.levels h.work h.coded h.legal }
+    held = record { seven = h.seven; drier = drier; press = press; short = coded_short s h.manner h.picture h.levels h.work h.coded h.legal }
 
     trip : WrittenIsRead s note m
-    trip = written_then_read s note m (file_length s) held (coded_then_written s note h.picture h.levels h.work (file_length s) h.legal h.coded noted (le_refl (file_length s)))
+    trip = written_then_read s note m (file_length s) held (coded_then_written s note h.manner h.picture h.levels h.work (file_length s) h.legal h.coded noted (le_refl (file_length s)))
 
     abbrev whole : ReadOutcome
     whole = record { answer = record { refusal = 0; settings = s; note = note }; levels = m }
@@ -119,14 +121,14 @@ module _ (first : List ℕ) (note : Note) (noted : T (note_ok note)) (drier : He
     -- what it shows, to whoever lends buffers of right lengths
     module _ (levels : List ℤ) (picture : List ℕ) (work : List ℤ) (long : length levels ≡ total s) (pixels : length picture ≡ s.rows * s.columns) (room : total s ≤ length work) where
       rebuilds : (rebuilding s m picture work).answer ≡ 0
-      rebuilds = rebuilding_accepts s h.picture h.levels h.work h.legal h.coded picture work pixels room
+      rebuilds = rebuilding_accepts s h.manner h.picture h.levels h.work h.legal h.coded picture work pixels room
 
       one : ShownWithin first within bytes levels picture work
       one = record {
         read = ap (λ (r : ReadOutcome). r.answer) (read_is levels long) ∙ sym checked;
         rebuilt = rw (checked, read_is levels long) rebuilds;
         moved = λ p. rw (checked, read_is levels long)
-            (nearer _ (get_or h.picture p 0) (get_or first p 0) (h.near p) (rebuilt_near s h.picture h.levels h.work picture work h.coded rebuilds h.legal p));
+            (nearer _ (get_or h.picture p 0) (get_or first p 0) (h.near p) (rebuilt_near s h.manner h.picture h.levels h.work picture work h.coded rebuilds h.legal p));
       }
 
     shows : Shows first note within bytes
@@ -148,20 +150,21 @@ module _ (first : List ℕ) (note : Note) (noted : T (note_ok note)) (drier : He
       rebuilt_ok : (rebuilding s m c.picture c.work).answer ≡ 0
       rebuilt_ok = subst (λ (r : ReadOutcome). (rebuilding r.answer.settings r.levels c.picture c.work).answer ≡ 0) found e₂
 
-      accepted_copy : Holds (within + bound_at c.settings 0) (written_bytes (rewritten bytes c))
+      accepted_copy : Holds (within + bound_at c.settings c.manner 0) (written_bytes (rewritten bytes c))
       accepted_copy = record {
         settings = c.settings;
+        manner = c.manner;
         picture = (shown bytes c).picture;
         levels = c.levels;
         work = c.coding_work;
-        legal = back (λ r. Bytes (rebuilding r.answer.settings r.levels c.picture c.work).picture) (rebuilt_bytes s h.picture h.levels h.work c.picture c.work h.coded rebuilt_ok);
+        legal = back (λ r. Bytes (rebuilding r.answer.settings r.levels c.picture c.work).picture) (rebuilt_bytes s h.manner h.picture h.levels h.work c.picture c.work h.coded rebuilt_ok);
         seven = c.seven;
         coded = e₃;
         is = written_bytes_lem c.settings (source bytes c).answer.note (recoded bytes c).levels c.file e₄
             ∙ ap (λ (r : ReadOutcome). file_of c.settings r.answer.note (recoded bytes c).levels) found;
-        near = λ p. farther (bound_at c.settings 0)
+        near = λ p. farther (bound_at c.settings c.manner 0)
             (back (λ r. distance (get_or (rebuilding r.answer.settings r.levels c.picture c.work).picture p 0) (get_or first p 0) ≤ within)
-            (nearer _ (get_or h.picture p 0) (get_or first p 0) (h.near p) (rebuilt_near s h.picture h.levels h.work c.picture c.work h.coded rebuilt_ok h.legal p)));
+            (nearer _ (get_or h.picture p 0) (get_or first p 0) (h.near p) (rebuilt_near s h.manner h.picture h.levels h.work c.picture c.work h.coded rebuilt_ok h.legal p)));
       }
 
     step : (c : Copy) → Holds (within + copy_bound bytes c) (copied bytes c)
@@ -173,16 +176,16 @@ module _ (first : List ℕ) (note : Note) (noted : T (note_ok note)) (drier : He
             let (e₁, r₁) = first_none _ _ e in
             let (e₂, r₂) = first_none _ _ r₁ in
             let (e₃, r₃) = first_none _ _ r₂ in
-            rw (leaves_new _ (written_bytes (rewritten bytes c)) bytes e, leaves_new _ (bound_at c.settings 0) 0 e) (accepted_copy c e₁ e₂ e₃ (first_none _ _ r₃).0)
+            rw (leaves_new _ (written_bytes (rewritten bytes c)) bytes e, leaves_new _ (bound_at c.settings c.manner 0) 0 e) (accepted_copy c e₁ e₂ e₃ (first_none _ _ r₃).0)
         go (no refused) =
-            rw (leaves_kept _ (written_bytes (rewritten bytes c)) bytes refused, leaves_kept _ (bound_at c.settings 0) 0 refused, add-zero within) h
+            rw (leaves_kept _ (written_bytes (rewritten bytes c)) bytes refused, leaves_kept _ (bound_at c.settings c.manner 0) 0 refused, add-zero within) h
 
   module _ {within : ℕ} {bytes : List ℕ} (h : Holds within bytes) (c : Copy) where
     copy_refused : copy_refusal bytes c ≢ 0 → (copied bytes c ≡ bytes) × (copy_bound bytes c ≡ 0)
     unfolding copied copy_bound
     copy_refused refused = (leaves_kept _ _ _ refused, leaves_kept _ _ _ refused)
 
-    copy_accepted : copy_refusal bytes c ≡ 0 → ((check_file (copied bytes c)).settings ≡ c.settings) × (copy_bound bytes c ≡ bound_at c.settings 0)
+    copy_accepted : copy_refusal bytes c ≡ 0 → ((check_file (copied bytes c)).settings ≡ c.settings) × (copy_bound bytes c ≡ bound_at c.settings c.manner 0)
     unfolding copy_refusal copied copy_bound accepted_copy
     copy_accepted e =
         let (e₁, r₁) = first_none _ _ e in
@@ -206,23 +209,23 @@ module _ (first : List ℕ) (note : Note) (noted : T (note_ok note)) (drier : He
       shown_long : length (shown bytes c).picture ≡ c.settings.rows * c.settings.columns
       shown_long =
           subst (λ (r : ReadOutcome). length (rebuilding r.answer.settings r.levels c.picture c.work).picture ≡ length h.picture) (sym taken)
-          (rebuilt-size h.settings h.picture h.levels h.work c.picture c.work h.coded shows_it)
-          ∙ coded-pixels h.settings h.picture h.levels h.work h.legal h.coded ∙ suits.pixels
+          (rebuilt-size h.settings h.manner h.picture h.levels h.work c.picture c.work h.coded shows_it)
+          ∙ coded-pixels h.settings h.manner h.picture h.levels h.work h.legal h.coded ∙ suits.pixels
 
       shown_legal : Bytes (shown bytes c).picture
       shown_legal =
           subst (λ (r : ReadOutcome). Bytes (rebuilding r.answer.settings r.levels c.picture c.work).picture) (sym taken)
-          (rebuilt_bytes h.settings h.picture h.levels h.work c.picture c.work h.coded shows_it)
+          (rebuilt_bytes h.settings h.manner h.picture h.levels h.work c.picture c.work h.coded shows_it)
 
       recoded_ok : (recoded bytes c).answer ≡ 0
       recoded_ok =
-          coding_accepts c.settings (shown bytes c).picture c.levels c.coding_work suits.lawful
+          coding_accepts c.settings c.manner (shown bytes c).picture c.levels c.coding_work suits.lawful
           (record { picture_is = shown_long; levels_is = suits.levels; work_least = suits.coding_work })
 
       rewritten_ok : (rewritten bytes c).answer.refusal ≡ 0
       rewritten_ok =
           writing_refusal c.settings (source bytes c).answer.note (recoded bytes c).levels c.file
-          ∙ coded_then_written c.settings (source bytes c).answer.note (shown bytes c).picture c.levels c.coding_work (length c.file) shown_legal recoded_ok
+          ∙ coded_then_written c.settings (source bytes c).answer.note c.manner (shown bytes c).picture c.levels c.coding_work (length c.file) shown_legal recoded_ok
           (subst (λ (r : ReadOutcome). T (note_ok r.answer.note)) (sym taken) noted) suits.file
 
       copy_made : copy_refusal bytes c ≡ 0
@@ -253,9 +256,10 @@ module _ (f : Filing) (ok : filing_refusal f ≡ 0) where
   lawful_note : T (note_ok f.note)
   lawful_note = (written_accepted f.settings f.note (first_coded f).levels f.file firstly.1).noted
 
-  first_holds : Holds f.picture f.note lawful_note f.drier f.press (bound_at f.settings 0) (written_bytes (first_written f))
+  first_holds : Holds f.picture f.note lawful_note f.drier f.press (bound_at f.settings f.manner 0) (written_bytes (first_written f))
   first_holds = record {
     settings = f.settings;
+    manner = f.manner;
     picture = f.picture;
     levels = f.levels;
     work = f.work;

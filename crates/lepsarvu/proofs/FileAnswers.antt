@@ -1,6 +1,7 @@
 -- The numbers that calls on settings, pictures and bale files answer are those of refusals. Assumes nothing.
 use Rattle.std.proofs.Common.{List, [], ◌∷◌, ℕ, ◌≤◌, ℤ}
 use Rattle.pyramid.specs.declared.Settings.{Settings}
+use Rattle.pyramid.specs.declared.Manner.{Manner}
 use Rattle.pyramid.specs.Definitions.Answers.{bounds_answer, nodes_answer, deepest_answer}
 use Rattle.pyramid.specs.Definitions.Calls.{coding, rebuilding}
 use Rattle.pyramid.specs.Checks.Numbers.{settings_numbers, coding_numbers, rebuilding_numbers}
@@ -11,17 +12,17 @@ use Rattle.bale.proofs.Numbers.{bale_numbers}
 use Rattle.lepsarvu.proofs.Given.{small, one_small}
 
 module _ (s : Settings) where
-  pub coding_number : (picture : List ℕ) (levels work : List ℤ) → (coding s picture levels work).answer ≤ 18
+  pub coding_number : (manner : Manner) (picture : List ℕ) (levels work : List ℤ) → (coding s manner picture levels work).answer ≤ 18
   unfolding small
-  coding_number picture levels work = one_small (0 ∷ coding_numbers) _ tt ((pyramid_numbers s).of_coding picture levels work)
+  coding_number manner picture levels work = one_small (0 ∷ coding_numbers) _ tt ((pyramid_numbers s).of_coding manner picture levels work)
 
   pub rebuilding_number : (levels : List ℤ) (picture : List ℕ) (work : List ℤ) → (rebuilding s levels picture work).answer ≤ 18
   unfolding small
   rebuilding_number levels picture work = one_small (0 ∷ rebuilding_numbers) _ tt ((pyramid_numbers s).of_rebuilding levels picture work)
 
-  pub bounds_number : (bounds_answer s).refusal ≤ 18
+  pub bounds_number : (manner : Manner) → (bounds_answer s manner).refusal ≤ 18
   unfolding small
-  bounds_number = one_small (0 ∷ settings_numbers) _ tt (pyramid_numbers s).of_bounds
+  bounds_number manner = one_small (0 ∷ settings_numbers) _ tt ((pyramid_numbers s).of_bounds manner)
 
   pub nodes_number : (nodes_answer s).refusal ≤ 18
   unfolding small

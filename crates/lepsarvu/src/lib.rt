@@ -4,6 +4,7 @@
 
 ghost use Rattle.std.specs.Prelude.{◌≡◌, length};
 ghost use Rattle.refusals.specs.Definitions.Outcomes.{outcome, answer_number};
+ghost use Rattle.pyramid.specs.declared.Manner.TheVariants.{OpenLoop};
 ghost use Rattle.pyramid.specs.Definitions.Calls.{leaves, coding, rebuilding};
 ghost use Rattle.pyramid.specs.Definitions.Answers.{nodes_answer, bounds_answer, deepest_answer};
 ghost use Rattle.bale.specs.Definitions.Readings.{code_of, code_in};
@@ -16,9 +17,10 @@ use bale::{Bale, Code, Note, Reading};
 use pyramid::Settings;
 use refusals::{Refusal, answer_number};
 
+pub mod closed;
 pub mod pictures;
 
-fn settings(columns: u16, rows: u16, depth: u16, kernel: u16, bins: [u16; 7]) -> Settings
+pub(crate) fn settings(columns: u16, rows: u16, depth: u16, kernel: u16, bins: [u16; 7]) -> Settings
     ensures { result ≡ settings_of columns rows depth kernel bins }
 {
     Settings {
@@ -56,13 +58,13 @@ pub fn lepsarvu_coding(
     work: &mut [i32],
 ) -> u16
     ensures value { result ≡
-        (coding (settings_of columns rows depth kernel bins.now) picture.now
+        (coding (settings_of columns rows depth kernel bins.now) OpenLoop picture.now
         levels.old work.old).answer }
     ensures levels_after { levels.new ≡
-        (coding (settings_of columns rows depth kernel bins.now) picture.now
+        (coding (settings_of columns rows depth kernel bins.now) OpenLoop picture.now
         levels.old work.old).levels }
     ensures work_after { work.new ≡
-        (coding (settings_of columns rows depth kernel bins.now) picture.now
+        (coding (settings_of columns rows depth kernel bins.now) OpenLoop picture.now
         levels.old work.old).work }
 {
     let s = settings(columns, rows, depth, kernel, *bins);
@@ -101,9 +103,9 @@ pub fn lepsarvu_level_bounds(
     bins: &[u16; 7],
     bounds: &mut [u16; 7],
 ) -> u16
-    ensures value { result ≡ (bounds_answer (settings_of columns rows depth kernel bins.now)).refusal }
+    ensures value { result ≡ (bounds_answer (settings_of columns rows depth kernel bins.now) OpenLoop).refusal }
     ensures bounds_after { bounds.new ≡
-        leaves result (bounds_answer (settings_of columns rows depth kernel bins.now)).levels
+        leaves result (bounds_answer (settings_of columns rows depth kernel bins.now) OpenLoop).levels
         bounds.old }
 {
     let s = settings(columns, rows, depth, kernel, *bins);

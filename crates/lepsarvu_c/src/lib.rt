@@ -5,11 +5,13 @@
 #![tactic(auto)]
 
 ghost use Rattle.std.specs.Prelude.{◌≡◌, length};
+ghost use Rattle.pyramid.specs.declared.Manner.TheVariants.{OpenLoop};
 ghost use Rattle.pyramid.specs.Definitions.Calls.{leaves, coding, rebuilding};
 ghost use Rattle.pyramid.specs.Definitions.Answers.{nodes_answer, bounds_answer, deepest_answer};
 ghost use Rattle.bale.specs.Definitions.Calls.{size_answer, check_file, read_file};
 ghost use Rattle.lepsarvu.specs.Definitions.Exports.{settings_of, shape_of, kinds_of, numbers_of, coded_refusal, coded_file, coded_size};
 
+pub mod closed;
 pub mod pictures;
 
 #[unsafe(no_mangle)]
@@ -24,13 +26,13 @@ pub extern "C" fn lepsarvu_coding(
     work: &mut [i32],
 ) -> u16
     ensures value { result ≡
-        (coding (settings_of columns rows depth kernel bins.now) picture.now
+        (coding (settings_of columns rows depth kernel bins.now) OpenLoop picture.now
         levels.old work.old).answer }
     ensures levels_after { levels.new ≡
-        (coding (settings_of columns rows depth kernel bins.now) picture.now
+        (coding (settings_of columns rows depth kernel bins.now) OpenLoop picture.now
         levels.old work.old).levels }
     ensures work_after { work.new ≡
-        (coding (settings_of columns rows depth kernel bins.now) picture.now
+        (coding (settings_of columns rows depth kernel bins.now) OpenLoop picture.now
         levels.old work.old).work }
 {
     lepsarvu::lepsarvu_coding(columns, rows, depth, kernel, bins, picture, levels, work)
@@ -69,9 +71,9 @@ pub extern "C" fn lepsarvu_level_bounds(
     bins: &[u16; 7],
     bounds: &mut [u16; 7],
 ) -> u16
-    ensures value { result ≡ (bounds_answer (settings_of columns rows depth kernel bins.now)).refusal }
+    ensures value { result ≡ (bounds_answer (settings_of columns rows depth kernel bins.now) OpenLoop).refusal }
     ensures bounds_after { bounds.new ≡
-        leaves result (bounds_answer (settings_of columns rows depth kernel bins.now)).levels
+        leaves result (bounds_answer (settings_of columns rows depth kernel bins.now) OpenLoop).levels
         bounds.old }
 {
     lepsarvu::lepsarvu_level_bounds(columns, rows, depth, kernel, bins, bounds)

@@ -20,6 +20,10 @@ pub *ℤ-+ℤ : (x y z : ℤ) → x *ℤ (y +ℤ z) ≡ x *ℤ y +ℤ x *ℤ z
 pub *ℤ--ℤ : (x y z : ℤ) → x *ℤ (y -ℤ z) ≡ x *ℤ y -ℤ x *ℤ z
 *ℤ--ℤ = all₃ _ (λ p n q m r s. simp ints (omega arith))
 
+-- taken off, and the rest taken off
+pub minus-minus : (x y : ℤ) → x -ℤ (x -ℤ y) ≡ y
+minus-minus = all₂ _ (λ p n q m. simp ints (omega arith))
+
 pub ≤ℤ-trans : {x y z : ℤ} → x ≤ℤ y → y ≤ℤ z → x ≤ℤ z
 ≤ℤ-trans {x} {y} {z} = all₃ (λ x y z. x ≤ℤ y → y ≤ℤ z → x ≤ℤ z) (λ p n q m r s. simp ints (omega arith)) x y z
 

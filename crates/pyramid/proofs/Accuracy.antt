@@ -2,7 +2,7 @@
 -- accepted generation every level's rebuilt values lie within that level's bound of its averages. Assumes nothing.
 use mathlib.Core.Path.{◌≡◌, refl, sym, ap, ◌∙◌, subst}
 use mathlib.Core.List.{List, [], ◌∷◌, append-nil}
-use Prim.Native.Nat.{ℕ, zero, suc, ◌+◌, ◌-◌, ◌*◌, ◌≤◌, ◌<◌}
+use Prim.Native.Nat.{ℕ, zero, suc, ◌+◌, ◌*◌, ◌≤◌, ◌<◌}
 use native.Mathlib.Omega.{arith}
 use native.Mathlib.Decide.{dec_lt}
 use lib.IntN.{ℤ, pos, negsuc}
@@ -10,16 +10,19 @@ use lib.ListN.{length, get_or, get_or-eq_default}
 use Rattle.mathematics.proofs.Distance.{Near, near_pos, near_negative}
 use Rattle.mathematics.specs.Definitions.Distances.{distance}
 use Rattle.pyramid.specs.declared.Settings.{Settings}
+use Rattle.pyramid.specs.declared.Manner.{Manner}
 use Rattle.pyramid.specs.Definitions.Sizes.{Level, last}
-use Rattle.pyramid.specs.Definitions.Pyramid.{average, index}
+use Rattle.pyramid.specs.Definitions.Pyramid.{average}
 use Rattle.pyramid.specs.Definitions.Rebuilding.{rebuilt, clamp}
+use Rattle.pyramid.specs.Definitions.Manners.{index}
 use Rattle.pyramid.specs.Definitions.Bound.{bound_at}
 use Rattle.pyramid.specs.Definitions.Buffers.{Bytes, raster, pixels, read_levels}
 use Rattle.pyramid.specs.Definitions.Calls.{leaves, coding, rebuilding}
 use Rattle.pyramid.specs.Definitions.Generations.{Generation, coded, rebuilt_from, outcome, left_by, counted_bound, at_hand, bound_sum}
 use Rattle.pyramid.specs.Theorems.Accuracy.{LevelsWithin, Accuracy}
 use Rattle.pyramid.proofs.Sizes.{last-zero}
-use Rattle.pyramid.proofs.Within.{NearAt, within}
+use Rattle.pyramid.proofs.Within.{NearAt}
+use Rattle.pyramid.proofs.ClosedLoop.{rebuilt-near}
 use Rattle.pyramid.specs.Inner.Accepted.{Accepted}
 use Rattle.pyramid.proofs.Refusals.{first_nil, first_none, first_pass, accepted_coding, leaves_new}
 use Rattle.pyramid.proofs.Buffers.{length-raster, raster_at, by_place, read_stack}
@@ -61,19 +64,19 @@ module _ (picture : List ℕ) (g : Generation) where
     unfolding coding
     call = accepted_coding s picture g.levels g.work coded_ok
 
-    indices : (l : ℕ) → l ≤ s.depth → (i j : ℕ) → i ≤ last s.columns l → j ≤ last s.rows l → m l i j ≡ index s p l i j
+    indices : (l : ℕ) → l ≤ s.depth → (i j : ℕ) → i ≤ last s.columns l → j ≤ last s.rows l → m l i j ≡ index s g.manner (average s p) l i j
     unfolding coding
     indices l hl i j hi hj =
         ap (λ (b : List ℤ). read_levels s b l i j) (leaves_new _ _ _ coded_ok ∙ sym (append-nil _))
-        ∙ read_stack s (index s p) l i j [] hl (omega arith) (omega arith)
+        ∙ read_stack s (index s g.manner (average s p)) l i j [] hl (omega arith) (omega arith)
 
-    near : (l : ℕ) → l ≤ s.depth → NearAt s call.law l (bound_at s l) (rebuilt s m l) (average s p l)
-    near l hl = within s call.law p m indices (s.depth - l) l (omega arith)
+    near : (l : ℕ) → l ≤ s.depth → NearAt s call.law l (bound_at s g.manner l) (rebuilt s m l) (average s p l)
+    near = rebuilt-near s call.law g.manner (average s p) m indices
 
     levels_within : LevelsWithin picture g
     unfolding rebuilding
     levels_within l i j hl hi hj =
-        (subst (λ (z : ℤ). Near (bound_at s l) z (average s p l i j))
+        (subst (λ (z : ℤ). Near (bound_at s g.manner l) z (average s p l i j))
         (sym (ap (λ (b : List ℤ). read_levels s b l i j) (leaves_new _ _ _ rebuilt_ok) ∙ read_stack s (rebuilt s m) l i j _ hl hi hj))
         (near l hl i j (omega arith) (omega arith))).apart
 
@@ -102,9 +105,9 @@ module _ (picture : List ℕ) (g : Generation) where
             rw (get_or-eq_default (rebuilt_from picture g).picture 0 {n = q} (omega (arith, size, call.sized.picture_is)))
             (past q (omega (arith, call.sized.picture_is)))
 
-    moved : Bytes picture → (q : ℕ) → distance (get_or (rebuilt_from picture g).picture q 0) (get_or picture q 0) ≤ bound_at s 0
+    moved : Bytes picture → (q : ℕ) → distance (get_or (rebuilt_from picture g).picture q 0) (get_or picture q 0) ≤ bound_at s g.manner 0
     unfolding pixel average pixels
-    moved bytes = each_pixel (λ q b. distance b (get_or picture q 0) ≤ bound_at s 0)
+    moved bytes = each_pixel (λ q b. distance b (get_or picture q 0) ≤ bound_at s g.manner 0)
         (λ i j hi hj. clamp_near s (rebuilt s m 0 i j) (near 0 (omega arith) i j (omega (arith, last-zero s.columns)) (omega (arith, last-zero s.rows))) (bytes (j * s.columns + i)))
         (λ q h. omega (arith, get_or-eq_default picture 0 {n = q} h))
 
@@ -129,22 +132,22 @@ module _ (picture : List ℕ) (g : Generation) where
 
 -- ---- a rebuilding from the levels of a coding, both accepted
 
-module _ (s : Settings) (picture : List ℕ) (levels work : List ℤ) (target : List ℕ) (target_work : List ℤ)
-    (coded : (coding s picture levels work).answer ≡ 0) (rebuilt : (rebuilding s (coding s picture levels work).levels target target_work).answer ≡ 0) where
+module _ (s : Settings) (manner : Manner) (picture : List ℕ) (levels work : List ℤ) (target : List ℕ) (target_work : List ℤ)
+    (coded : (coding s manner picture levels work).answer ≡ 0) (rebuilt : (rebuilding s (coding s manner picture levels work).levels target target_work).answer ≡ 0) where
   abbrev generation : Generation
-  generation = record { settings = s; levels = levels; work = work; target = target; target_work = target_work }
+  generation = record { settings = s; manner = manner; levels = levels; work = work; target = target; target_work = target_work }
 
   accepted : outcome picture generation ≡ 0
   unfolding outcome
   accepted = first_pass _ coded (first_pass _ rebuilt first_nil)
 
-  pub rebuilt_near : Bytes picture → (q : ℕ) → distance (get_or (rebuilding s (coding s picture levels work).levels target target_work).picture q 0) (get_or picture q 0) ≤ bound_at s 0
+  pub rebuilt_near : Bytes picture → (q : ℕ) → distance (get_or (rebuilding s (coding s manner picture levels work).levels target target_work).picture q 0) (get_or picture q 0) ≤ bound_at s manner 0
   rebuilt_near = moved picture generation accepted
 
-  pub rebuilt-size : length (rebuilding s (coding s picture levels work).levels target target_work).picture ≡ length picture
+  pub rebuilt-size : length (rebuilding s (coding s manner picture levels work).levels target target_work).picture ≡ length picture
   rebuilt-size = size picture generation accepted
 
-  pub rebuilt_bytes : Bytes (rebuilding s (coding s picture levels work).levels target target_work).picture
+  pub rebuilt_bytes : Bytes (rebuilding s (coding s manner picture levels work).levels target target_work).picture
   rebuilt_bytes = still_bytes picture generation accepted
 
 -- ---- the list

@@ -9,6 +9,7 @@ use lib.ListN.{length, take, drop}
 use Rattle.std.proofs.lemmas.List.{length-take-le, length-drop}
 use Rattle.mathematics.specs.Inner.Splices.{splice, part}
 use Rattle.pyramid.specs.declared.Settings.{Settings}
+use Rattle.pyramid.specs.declared.Manner.TheVariants.{OpenLoop}
 use Rattle.pyramid.specs.Inner.Lawful.{Lawful}
 use Rattle.pyramid.specs.Definitions.Sizes.{Level, columns_at, rows_at, nodes_at, total}
 use Rattle.pyramid.specs.Definitions.Pyramid.{reduced, average}
@@ -44,7 +45,7 @@ module _ (s : Settings) (law : Lawful s) (w : List ℤ) (long : total s ≤ leng
     averaged_read : (i j : ℕ) → i < columns_at s l → j < rows_at s l → read_levels s work l i j ≡ averages l i j
     averaged_read i j hi hj = rw a.is (read_placed s averages w long l l i j a.deep (omega arith) hi hj)
 
-    pub averaged_small : CodingRanges s (read_levels s w 0) → LevelSmall s l limit work
+    pub averaged_small : CodingRanges s OpenLoop averages → LevelSmall s l limit work
     averaged_small r = record { small = λ h i j hi hj. rw (averaged_read i j hi hj) (r.averages l h i j hi hj) }
 
     pub averaged_next : l < s.depth → Averaged (splice (start s (suc l)) (level_raster s (λ _. reduced s l (read_levels s work l)) (suc l)) work) (suc l)
@@ -90,7 +91,7 @@ module _ (s : Settings) (law : Lawful s) (w : List ℤ) (long : total s ≤ leng
 
       -- what the code was given of level l
       module _ {columns rows : ℕ} {values : List ℤ} (across : columns ≡ columns_at s l) (along : rows ≡ rows_at s l) (held : values ≡ take (nodes_at s l) after) where
-        pub turn_reducible : CodingRanges s (read_levels s w 0) → Reducible columns rows values (length (take (length before - up) (drop up before)))
+        pub turn_reducible : CodingRanges s OpenLoop averages → Reducible columns rows values (length (take (length before - up) (drop up before)))
         turn_reducible r = rw (across, along, held ∙ values_is) (reducible s law work l h room (averaged_small r) long_lent)
 
         -- what it leaves

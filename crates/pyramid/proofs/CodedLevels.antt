@@ -9,9 +9,11 @@ use lib.Dec.{T, leb, leb→le, le→leb}
 use lib.IntN.{ℤ, pos, nat_abs}
 use lib.ListN.{length, get_or}
 use Rattle.pyramid.specs.declared.Settings.{Settings}
-use Rattle.pyramid.specs.Definitions.Sizes.{columns_at, rows_at, total}
-use Rattle.pyramid.specs.Definitions.Pyramid.{index}
+use Rattle.pyramid.specs.declared.Manner.{Manner}
+use Rattle.pyramid.specs.Definitions.Sizes.{Level, columns_at, rows_at, total}
+use Rattle.pyramid.specs.Definitions.Pyramid.{average}
 use Rattle.pyramid.specs.Definitions.Rebuilding.{value_of}
+use Rattle.pyramid.specs.Definitions.Manners.{index}
 use Rattle.pyramid.specs.Definitions.Buffers.{Bytes, pixels, all_levels, read_levels}
 use Rattle.pyramid.specs.Definitions.Refusals.{unless, first, limit, settings_refusal, buffers_refusal, values_ok, coding_refusal}
 use Rattle.pyramid.specs.Definitions.Calls.{coding, rebuilding}
@@ -30,14 +32,17 @@ not_eleven true false c e = omega arith
 not_eleven false b c e = omega arith
 
 -- lawful settings and buffers of right lengths are accepted
-pub coding_accepts : (s : Settings) (picture : List ℕ) (levels work : List ℤ) → settings_refusal s ≡ 0 → Sized s (length picture) (length levels) (length work)
-    → (coding s picture levels work).answer ≡ 0
+pub coding_accepts : (s : Settings) (manner : Manner) (picture : List ℕ) (levels work : List ℤ) → settings_refusal s ≡ 0
+    → Sized s (length picture) (length levels) (length work) → (coding s manner picture levels work).answer ≡ 0
 unfolding coding coding_refusal
-coding_accepts s picture levels work e z = first_pass _ e (first_pass _ (buffers_accepted s z) first_nil)
+coding_accepts s manner picture levels work e z = first_pass _ e (first_pass _ (buffers_accepted s z) first_nil)
 
-module _ (s : Settings) (picture : List ℕ) (levels work : List ℤ) (bytes : Bytes picture) (ok : (coding s picture levels work).answer ≡ 0) where
+module _ (s : Settings) (manner : Manner) (picture : List ℕ) (levels work : List ℤ) (bytes : Bytes picture) (ok : (coding s manner picture levels work).answer ≡ 0) where
   abbrev left : List ℤ
-  left = (coding s picture levels work).levels
+  left = (coding s manner picture levels work).levels
+
+  abbrev g : ℕ → Level
+  g = average s (pixels s.columns picture)
 
   call : Accepted s picture levels work
   unfolding coding
@@ -50,16 +55,16 @@ module _ (s : Settings) (picture : List ℕ) (levels work : List ℤ) (bytes : B
   unfolding coding coding_refusal
   coded-settings = (first_none _ _ ok).0
 
-  left_is : left ≡ all_levels s (index s (pixels s.columns picture))
+  left_is : left ≡ all_levels s (index s manner g)
   unfolding coding
   left_is = leaves_new _ _ _ ok
 
-  ranges : CodingRanges s (pixels s.columns picture)
-  ranges = coding_ranges s call.law picture bytes
+  ranges : CodingRanges s manner g
+  ranges = coding_ranges s call.law picture bytes manner
 
-  read_left : (l i j : ℕ) → l ≤ s.depth → i < columns_at s l → j < rows_at s l → read_levels s left l i j ≡ index s (pixels s.columns picture) l i j
+  read_left : (l i j : ℕ) → l ≤ s.depth → i < columns_at s l → j < rows_at s l → read_levels s left l i j ≡ index s manner g l i j
   read_left l i j hl hi hj =
-      ap (λ (b : List ℤ). read_levels s b l i j) (left_is ∙ sym (append-nil _)) ∙ read_stack s (index s (pixels s.columns picture)) l i j [] hl hi hj
+      ap (λ (b : List ℤ). read_levels s b l i j) (left_is ∙ sym (append-nil _)) ∙ read_stack s (index s manner g) l i j [] hl hi hj
 
   pub coded_values : T (values_ok s left)
   unfolding values_ok
@@ -72,12 +77,12 @@ module _ (s : Settings) (picture : List ℕ) (levels work : List ℤ) (bytes : B
   coded-small p =
       rw left_is
       (leb→le _ limit
-      (all_at (λ v. leb (nat_abs v) limit) (pos 0) tt (all_levels s (index s (pixels s.columns picture)))
-      (all-stack s (λ v. leb (nat_abs v) limit) (index s (pixels s.columns picture)) s.depth (λ l i j hl hi hj. le→leb _ limit (ranges.indices l hl i j hi hj)))
+      (all_at (λ v. leb (nat_abs v) limit) (pos 0) tt (all_levels s (index s manner g))
+      (all-stack s (λ v. leb (nat_abs v) limit) (index s manner g) s.depth (λ l i j hl hi hj. le→leb _ limit (ranges.indices l hl i j hi hj)))
       p))
 
   pub coded-total : length left ≡ total s
-  coded-total = ap length left_is ∙ length-all s (index s (pixels s.columns picture))
+  coded-total = ap length left_is ∙ length-all s (index s manner g)
 
   coded-length : length left ≡ length levels
   coded-length = coded-total ∙ sym call.sized.levels_is

@@ -100,11 +100,11 @@ deepest_looks columns rows = sym (first-last _)
 pub conditions : (s : Settings) → Conditions s
 unfolding coding rebuilding bounds_answer nodes_answer shape_answer level_size_answer
 conditions s = record {
-  of_coding = λ picture levels work. given (coding_tests s picture levels work) (coding_looks s picture levels work) tt;
+  of_coding = λ manner picture levels work. given (coding_tests s picture levels work) (coding_looks s picture levels work) tt;
   of_rebuilding = λ levels picture work. given (rebuilding_tests s levels picture work) (rebuilding_looks s picture levels work) tt;
   of_settings = given (settings_tests s) (settings_look s) tt;
   of_levels = λ levels. given (levels_tests s levels) (levels_look s levels) tt;
-  of_bounds = given (settings_tests s) (settings_look s) tt;
+  of_bounds = λ manner. given (settings_tests s) (settings_look s) tt;
   of_nodes = given (settings_tests s) (settings_look s) tt;
   of_shape = given (shape_tests s) (shape_looks s) tt;
   of_level_size = λ l. given (shape_tests s) (shape_looks s) tt;

@@ -1,24 +1,28 @@
--- The numbers that `copying` forms, as the machine forms them: clamped values, indices and the values of indices. Assumes nothing.
-use mathlib.Core.Path.{◌≡◌, refl, ap, ap₂, ◌∙◌}
+-- The rows and numbers that `copying` forms, as the machine forms them: clamped values, differences, indices and their values.
+-- Assumes nothing.
+use mathlib.Core.Path.{◌≡◌, refl, sym, ap, ap₂, ◌∙◌}
 use mathlib.Core.List.{List, map}
-use Prim.Native.Nat.{ℕ, ◌≤◌}
+use Prim.Native.Nat.{ℕ, ◌+◌, ◌^◌, ◌≤◌, ◌<◌}
+use lib.Dec.{T, ltb}
 use native.Mathlib.Omega.{arith}
 use lib.IntN.{ℤ, pos, negsuc, nat_abs, ◌+ℤ◌, ◌-ℤ◌, ◌*ℤ◌}
 use lib.ListN.{length, get_or}
 use mir.Syntax.{w16, w32}
 use mir.Val.{SFits, to_z}
 use Rattle.mathematics.specs.Definitions.Tables.{tabulate}
-use Rattle.mathematics.proofs.Tables.{map-tabulate}
+use Rattle.mathematics.proofs.Tables.{length-tabulate, get_or-tabulate, tabulate-same, tabulate-map, map-tabulate}
 use Rattle.mathematics.proofs.Held.{held, held_is, short, short_is}
-use Rattle.mathematics.proofs.IntegerLaws.{fits_by, abs_sum, abs_minus}
+use Rattle.mathematics.proofs.IntegerLaws.{fits_by, abs_sum, abs_minus, minus-minus}
 use Rattle.std.specs.Int.{int_min, int_max}
 use Rattle.std.proofs.lemmas.Int as std
 use Rattle.std.proofs.lemmas.Bool.Decides.{nat_tests}
 use Rattle.quantizer.specs.Definitions.Bins.{bin_index}
+use Rattle.std.proofs.lemmas.List.{map-id}
 use Rattle.pyramid.specs.declared.Settings.{Settings}
+use Rattle.pyramid.specs.declared.Manner.TheVariants.{OpenLoop, ClosedLoop}
 use Rattle.pyramid.specs.Definitions.Refusals.{limit}
 use Rattle.pyramid.specs.Definitions.Rebuilding.{clamp}
-use Rattle.pyramid.specs.Inner.Rows.{Within, Small, IndicesWithin}
+use Rattle.pyramid.specs.Inner.Rows.{Within, Small, kept, IndicesWithin, ValuesWithin}
 use Rattle.pyramid.proofs.TapSums.{within_fits}
 use Rattle.pyramid.proofs.SmallBuffers.{small-tabulate}
 
@@ -36,28 +40,57 @@ module _ (s : Settings) where
 
 -- ---- a difference
 
-module _ {a p : ℤ} (ha : Within 8388608 a) (hp : Within 8388608 p) where
+module _ {e f : ℕ} (te : T (ltb e (2 ^ 31))) (tf : T (ltb f (2 ^ 31))) (both : T (ltb (e + f) (2 ^ 31))) {a p : ℤ} (ha : Within e a) (hp : Within f p) where
   difference_formed : held a -ℤ held p ≡ a -ℤ p
-  difference_formed = rw (held_is (within_fits tt ha), held_is (within_fits tt hp))
+  difference_formed = rw (held_is (within_fits te ha), held_is (within_fits tf hp))
 
   pub difference-fits : SFits w32 (held a -ℤ held p)
-  difference-fits = rw difference_formed (fits_by w32 16777216 tt (abs_minus 8388608 8388608 a p ha.small hp.small))
+  difference-fits = rw difference_formed (fits_by w32 (e + f) both (abs_minus e f a p ha.small hp.small))
 
   pub difference_held : held (held a -ℤ held p) ≡ a -ℤ p
   difference_held = held_is difference-fits ∙ difference_formed
 
--- ---- the indices of a row of differences
+-- ---- a row of differences, their indices, and what is kept
 
-module _ (averages predicted : List ℤ) where
-  abbrev difference : ℕ → ℤ
-  difference i = get_or averages i (pos 0) -ℤ get_or predicted i (pos 0)
+module _ (averages predicted : List ℤ) (n : ℕ) where
+  abbrev index : ℕ → ℤ
+  index i = bin_index (get_or averages i (pos 0) -ℤ get_or predicted i (pos 0)) n
 
-  module _ (n : ℕ) {differences made : List ℤ} (d : differences ≡ tabulate (length predicted) difference) (m : made ≡ map (λ L. bin_index L n) differences) where
-    pub indices_made : {count : ℕ} → length predicted ≡ count → made ≡ tabulate count (λ i. bin_index (difference i) n)
-    indices_made {count} e = m ∙ ap (map (λ L. bin_index L n)) d ∙ rw e (map-tabulate (λ L. bin_index L n) count difference)
+  module _ {differences : List ℤ} (count : ℕ) (d : differences ≡ tabulate count (λ i. get_or averages i (pos 0) -ℤ get_or predicted i (pos 0))) (e : count ≡ length averages) where
+    pub indices_made : map (λ L. bin_index L n) differences ≡ tabulate (length averages) index
+    indices_made = ap (map (λ L. bin_index L n)) d ∙ map-tabulate (λ L. bin_index L n) count _ ∙ rw e refl
 
-    pub indices_small : length predicted ≡ length averages → IndicesWithin averages predicted n → Small limit made
-    indices_small e lawful = rw (indices_made e) (small-tabulate (length averages) (λ i. bin_index (difference i) n) lawful.at)
+    pub indices_small : IndicesWithin averages predicted n → Small limit (map (λ L. bin_index L n) differences)
+    indices_small lawful = rw indices_made (small-tabulate (length averages) index lawful.at)
+
+    pub differences_small : Small 8388608 averages → Small 8388608 predicted → Small 16777216 differences
+    differences_small ha hp =
+        rw (d, e) (small-tabulate (length averages) _ (λ i h. record { small = abs_minus 8388608 8388608 (get_or averages i (pos 0)) (get_or predicted i (pos 0)) (ha i).small (hp i).small }))
+
+    -- taken off the averages, they leave what was predicted
+    pub recovered : length predicted ≡ length averages → tabulate (length averages) (λ i. get_or averages i (pos 0) -ℤ get_or differences i (pos 0)) ≡ predicted
+    recovered long =
+        tabulate-same (length averages) _ (λ i. get_or predicted i (pos 0))
+        (λ i h. rw (d, get_or-tabulate count _ (pos 0) i (omega (arith, e)), minus-minus (get_or averages i (pos 0)) (get_or predicted i (pos 0))) refl)
+        ∙ rw (← long) (tabulate-map (λ p. p) (pos 0) predicted ∙ map-id predicted)
+
+  module _ {indices : List ℤ} (e : indices ≡ tabulate (length averages) index) where
+    made_node : (i : ℕ) → i < length averages → get_or indices i (pos 0) ≡ index i
+    made_node i h = rw (e, get_or-tabulate (length averages) index (pos 0) i h) refl
+
+    pub values_within : IndicesWithin averages predicted n → ValuesWithin indices n
+    values_within lawful = record {
+      at = λ i h. let hi : i < length averages = omega (arith, ap length e, length-tabulate (length averages) index) in rw (made_node i hi) (lawful.values i hi);
+    }
+
+    pub closed_kept : tabulate (length averages) (λ i. get_or indices i (pos 0) *ℤ pos n +ℤ get_or predicted i (pos 0))
+        ≡ tabulate (length averages) (λ i. kept ClosedLoop (get_or averages i (pos 0)) (get_or predicted i (pos 0)) n)
+    unfolding kept
+    closed_kept = tabulate-same (length averages) _ _ (λ i h. rw (made_node i h) refl)
+
+  pub open_kept : averages ≡ tabulate (length averages) (λ i. kept OpenLoop (get_or averages i (pos 0)) (get_or predicted i (pos 0)) n)
+  unfolding kept
+  open_kept = sym (tabulate-map (λ a. a) (pos 0) averages ∙ map-id averages)
 
 -- an index, clamped to 16 bits and stored in them
 pub index_stored : {m r : ℤ} → Within limit m → r ≡ int_max (negsuc 32767) (int_min (held m) (pos 32767)) → short (held r) ≡ m

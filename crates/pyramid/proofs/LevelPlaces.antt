@@ -5,10 +5,10 @@ use Prim.Native.Nat.{ℕ, suc, ◌+◌, ◌-◌, ◌*◌, ◌≤◌, ◌<◌}
 use native.Mathlib.Nat.{zero-add}
 use native.Mathlib.Omega.{arith}
 use lib.IntN.{ℤ, pos}
-use lib.ListN.{length, take, drop}
+use lib.ListN.{length, get_or, take, drop}
 use lib.Seq.{length-take-le, take_all, take-add, get_or-take}
 use Rattle.mathematics.specs.Inner.Splices.{splice, part}
-use Rattle.mathematics.proofs.Splices.{length-splice, get_or-splice, splice_nil, splice_append, splice-part, splice_prepend, splice_front}
+use Rattle.mathematics.proofs.Splices.{length-splice, get_or-splice, get_or-part, part_after, splice_nil, splice_append, splice-part, splice_prepend, splice_front}
 use Rattle.pyramid.specs.declared.Settings.{Settings}
 use Rattle.pyramid.specs.Definitions.Sizes.{Level, columns_at, rows_at, nodes_at, nodes_to, total}
 use Rattle.pyramid.specs.Definitions.Buffers.{level_raster, stack, all_levels, start, read_levels}
@@ -99,6 +99,15 @@ module _ (s : Settings) where
           ∙ ap (λ (xs : List ℤ). splice 0 xs w)
           (ap (λ (xs : List ℤ). take (start s l) (all_levels s f) ++ xs) (sym (rw e at (all-part l h))) ∙ sym (take-add (start s l) (nodes_at s l) (all_levels s f)))
 
+      -- one more level, whose nodes are those of f
+      pub topped_done : (l : ℕ) → l ≤ s.depth → (h : ℕ → Level) → ((i j : ℕ) → i < columns_at s l → j < rows_at s l → h l i j ≡ f l i j) → {b b' : List ℤ}
+          → b ≡ topped w (start s l) → b' ≡ splice (start s l) (level_raster s h l) b → b' ≡ topped w (start s l + nodes_at s l)
+      topped_done l deep h same {b} is e =
+          e
+          ∙ ap (λ (xs : List ℤ). splice (start s l) xs b) (raster-same (columns_at s l) (rows_at s l) (h l) (f l) same)
+          ∙ ap (splice (start s l) (level_raster s f l)) is
+          ∙ topped_next l deep
+
       -- what is read above level l
       pub read_topped : (l i j : ℕ) → suc l ≤ s.depth → i < columns_at s (suc l) → j < rows_at s (suc l) → read_levels s (topped w (start s l)) (suc l) i j ≡ f (suc l) i j
       unfolding topped read_levels
@@ -107,6 +116,17 @@ module _ (s : Settings) where
           let b : p < start s l = omega (arith, start-below s l h, inside {rows = rows_at s (suc l)} hi hj) in
           (rw zero-add at (get_or-splice 0 (take (start s l) (all_levels s f)) w (pos 0) p (omega arith) (omega (arith, front_length (start s l) (omega (arith, level_inside s l (omega arith)))))))
           ∙ get_or-take (start s l) (all_levels s f) p (pos 0) b ∙ read_all (suc l) i j h hi hj
+
+      -- what is read at level l is what was there
+      pub read_under : (l i j : ℕ) → l ≤ s.depth → i < columns_at s l → j < rows_at s l → read_levels s (topped w (start s l)) l i j ≡ read_levels s w l i j
+      unfolding topped read_levels
+      read_under l i j h hi hj =
+          let from : ℕ = start s l in
+          let q : ℕ = j * columns_at s l + i in
+          let fits : length (take from (all_levels s f)) ≡ from = front_length from (omega (arith, level_inside s l h)) in
+          sym (get_or-part from (from + suc q) (splice 0 (take from (all_levels s f)) w) (pos 0) q (omega arith))
+          ∙ ap (λ (xs : List ℤ). get_or xs q (pos 0)) (part_after 0 (take from (all_levels s f)) w (omega (arith, fits, level_inside s l h)) from (from + suc q) (omega (arith, fits)))
+          ∙ get_or-part from (from + suc q) w (pos 0) q (omega arith)
 
       -- all of them
       pub topped_last : (l : ℕ) → l ≤ 0 → topped w (start s l + nodes_at s l) ≡ splice 0 (all_levels s f) w

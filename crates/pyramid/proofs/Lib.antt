@@ -10,6 +10,7 @@ pub mod Refusals
 pub mod Buffers
 pub mod Ranges
 pub mod PictureRanges
+pub mod ClosedLoop
 pub mod Accuracy
 pub mod CodedLevels
 pub mod Depth
@@ -17,6 +18,7 @@ pub mod SettingsTests
 pub mod BoundSlots
 pub mod WorkedPieces
 pub mod WorkedPasses
+pub mod WorkedLoops
 pub mod TapSums
 pub mod ColumnSums
 pub mod LentParts
@@ -34,8 +36,8 @@ pub mod LevelParts
 pub mod CheckedLevels
 pub mod Prediction
 pub mod PredictedRows
-pub mod IndexRows
-pub mod IndexLevels
+pub mod MadeRows
+pub mod CodeLevels
 pub mod Pictures
 pub mod SamePictures
 pub mod LoadedPictures

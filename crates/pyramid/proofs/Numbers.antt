@@ -9,11 +9,11 @@ use Rattle.pyramid.proofs.Conditions.{shape_tests, settings_tests, levels_tests,
 pub pyramid_numbers : (s : Settings) → PyramidNumbers s
 unfolding coding rebuilding bounds_answer nodes_answer shape_answer level_size_answer
 pyramid_numbers s = record {
-  of_coding = λ picture levels work. answered (coding_tests s picture levels work) (coding_looks s picture levels work);
+  of_coding = λ manner picture levels work. answered (coding_tests s picture levels work) (coding_looks s picture levels work);
   of_rebuilding = λ levels picture work. answered (rebuilding_tests s levels picture work) (rebuilding_looks s picture levels work);
   of_settings = answered (settings_tests s) (settings_look s);
   of_levels = λ levels. answered (levels_tests s levels) (levels_look s levels);
-  of_bounds = answered (settings_tests s) (settings_look s);
+  of_bounds = λ manner. answered (settings_tests s) (settings_look s);
   of_nodes = answered (settings_tests s) (settings_look s);
   of_shape = answered (shape_tests s) (shape_looks s);
   of_level_size = λ l. answered (shape_tests s) (shape_looks s);

@@ -11,16 +11,19 @@ use lib.Dec.{T, leb, leb→le, lit<}
 use lib.IntN.{ℤ, pos, nat_abs}
 use Rattle.mathematics.specs.Definitions.Tests.{all_below}
 use Rattle.mathematics.proofs.Tests.{below_at}
-use Rattle.mathematics.proofs.Distance.{Near, near_more, near_trans, near_add, near_sub, near_zero, abs_near, pos_near}
+use Rattle.mathematics.proofs.Distance.{Near, near_refl, near_more, near_trans, near_add, near_sub, near_zero, abs_near, pos_near}
 use Rattle.mathematics.proofs.IntegerLaws.{abs-*ℤ}
 use Rattle.pyramid.specs.declared.Settings.{Settings}
+use Rattle.pyramid.specs.declared.Manner.{Manner}
+use Rattle.pyramid.specs.declared.Manner.TheVariants.{OpenLoop, ClosedLoop}
 use Rattle.pyramid.specs.Definitions.Settings.{bin}
 use Rattle.pyramid.specs.Definitions.Sizes.{Level, last}
-use Rattle.pyramid.specs.Definitions.Pyramid.{reduced, expanded, average, difference, index}
+use Rattle.pyramid.specs.Definitions.Pyramid.{reduced, expanded, average}
 use Rattle.pyramid.specs.Definitions.Weights.{weight}
 use Rattle.pyramid.specs.Definitions.Edge.{reflect}
 use Rattle.pyramid.specs.Definitions.Steps.{even_weight, halved}
 use Rattle.pyramid.specs.Definitions.Rebuilding.{value_of, rebuild, rebuilt}
+use Rattle.pyramid.specs.Definitions.Manners.{reference, difference, index}
 use Rattle.pyramid.specs.Definitions.Buffers.{Bytes, pixels, read_levels}
 use Rattle.pyramid.specs.Definitions.Bound.{magnified, tolerance}
 use Rattle.pyramid.specs.Definitions.Refusals.{limit, values_ok}
@@ -33,7 +36,7 @@ use Rattle.pyramid.proofs.Edge.{reduce_inside, expand_inside}
 use Rattle.pyramid.proofs.Buffers.{stack-all}
 use Rattle.pyramid.proofs.Steps.{spread, near_reduce, reduce_constant, expand_constant}
 use Rattle.pyramid.proofs.Differences.{difference_top, difference_below}
-use Rattle.pyramid.proofs.Within.{NearAt, near_index, near_expanded}
+use Rattle.pyramid.proofs.Within.{NearAt, near_index, near_expanded, near_closed}
 use Rattle.pyramid.proofs.LevelSteps.{level_wide, level_high}
 
 -- ---- how far averages of level l lie from 127, and what EXPAND of a level can make of a distance
@@ -49,9 +52,10 @@ most_magnified h e = let m = mul-le-mul_right e (hundredths_most h) in omega ari
 average_room : (l : ℕ) → l ≤ 6 → 127 + spread_to l ≤ 3968
 average_room l h = leb→le (127 + spread_to l) 3968 (below_at 7 (λ l. leb (127 + spread_to l) 3968) (unfold all_below spread_to in tt) l (omega arith))
 
-difference_room : (l : ℕ) → l < 6 → spread_to l + (196 * spread_to (suc l) + 99) / 100 ≤ 3968
+-- a level that is predicted from may lie half a bin farther, 127 at most
+difference_room : (l : ℕ) → l < 6 → spread_to l + (196 * (127 + spread_to (suc l)) + 99) / 100 ≤ 3968
 difference_room l h =
-    leb→le _ 3968 (below_at 6 (λ l. leb (spread_to l + (196 * spread_to (suc l) + 99) / 100) 3968) (unfold all_below spread_to in tt) l h)
+    leb→le _ 3968 (below_at 6 (λ l. leb (spread_to l + (196 * (127 + spread_to (suc l)) + 99) / 100) 3968) (unfold all_below spread_to in tt) l h)
 
 -- how far from 0 rebuilt values can lie, with d levels above
 height : ℕ → ℕ
@@ -75,33 +79,50 @@ module _ (s : Settings) (law : Lawful s) where
   abbrev pub Legal : Level → Type 0
   Legal p = NearAt s law 0 128 p (λ i j. pos 127)
 
-  module _ (p : Level) (legal : Legal p) where
-    near_average : (l : ℕ) → l ≤ s.depth → NearAt s law l (spread_to l) (average s p l) (λ i j. pos 127)
-    unfolding average spread_to
-    near_average zero hl i j hi hj = legal i j hi hj
-    near_average (suc l) hl i j hi hj =
-        subst (Near (spread (spread_to l)) (reduced s l (average s p l) i j)) (reduce_constant law.shaped.kernel (last s.columns l) (last s.rows l) (pos 127) i j)
-        (near_reduce law.shaped.kernel (last s.columns l) (last s.rows l) (spread_to l) (average s p l) (λ i j. pos 127) (near_average l (omega arith))
-        (level_wide s law l hl) (level_high s law l hl)
-        i j (omega (arith, last-suc s.columns l)) (omega (arith, last-suc s.rows l)))
+  near_average : (p : Level) → Legal p → (l : ℕ) → l ≤ s.depth → NearAt s law l (spread_to l) (average s p l) (λ i j. pos 127)
+  unfolding average spread_to
+  near_average p legal zero hl i j hi hj = legal i j hi hj
+  near_average p legal (suc l) hl i j hi hj =
+      subst (Near (spread (spread_to l)) (reduced s l (average s p l) i j)) (reduce_constant law.shaped.kernel (last s.columns l) (last s.rows l) (pos 127) i j)
+      (near_reduce law.shaped.kernel (last s.columns l) (last s.rows l) (spread_to l) (average s p l) (λ i j. pos 127) (near_average p legal l (omega arith))
+      (level_wide s law l hl) (level_high s law l hl)
+      i j (omega (arith, last-suc s.columns l)) (omega (arith, last-suc s.rows l)))
 
-    small-average : (l : ℕ) → l ≤ s.depth → NearAt s law l 3968 (average s p l) (λ i j. pos 0)
+  -- levels as far from 127 as averages of a legal picture
+  abbrev pub Averaged : (ℕ → Level) → Type 0
+  Averaged g = (l : ℕ) → l ≤ s.depth → NearAt s law l (spread_to l) (g l) (λ i j. pos 127)
+
+  module _ (manner : Manner) (g : ℕ → Level) (averaged : Averaged g) where
+    small-average : (l : ℕ) → l ≤ s.depth → NearAt s law l 3968 (g l) (λ i j. pos 0)
     small-average l hl i j hi hj =
-        near_more (omega (arith, average_room l (omega (arith, law.shaped.deep)))) (near_trans (near_average l hl i j hi hj) (near_zero {e = 127} (pos 127) (omega arith)))
+        near_more (omega (arith, average_room l (omega (arith, law.shaped.deep)))) (near_trans (averaged l hl i j hi hj) (near_zero {e = 127} (pos 127) (omega arith)))
 
-    small-difference : (d l : ℕ) → l + d ≡ s.depth → NearAt s law l 3968 (difference s p l) (λ i j. pos 0)
-    small-difference zero l e i j hi hj = rw (difference_top s p l (omega arith) i j) (small-average l (omega arith) i j hi hj)
+    -- what is predicted from lies within half a bin of the average
+    near_reference : (l : ℕ) → l ≤ s.depth → NearAt s law l 127 (reference s manner g l) (g l)
+    unfolding reference tolerance
+    near_reference = in_manner manner
+      where
+        in_manner : (manner : Manner) (l : ℕ) → l ≤ s.depth → NearAt s law l 127 (reference s manner g l) (g l)
+        in_manner OpenLoop l hl i j hi hj = near_more (omega arith) (near_refl (g l i j))
+        in_manner ClosedLoop l hl i j hi hj = near_more (omega (arith, (law.binned l hl).most)) (near_closed s law g (s.depth - l) l (omega arith) i j hi hj)
+
+    small-reference : (l : ℕ) → l ≤ s.depth → NearAt s law l limit (reference s manner g l) (λ i j. pos 0)
+    small-reference l hl i j hi hj = near_more (omega arith) (near_trans (near_reference l hl i j hi hj) (small-average l hl i j hi hj))
+
+    small-difference : (d l : ℕ) → l + d ≡ s.depth → NearAt s law l 3968 (difference s manner g l) (λ i j. pos 0)
+    small-difference zero l e i j hi hj = rw (difference_top s manner g l (omega arith) i j) (small-average l (omega arith) i j hi hj)
     small-difference (suc d) l e i j hi hj =
-        rw (difference_below s p l (omega arith) i j)
+        rw (difference_below s manner g l (omega arith) i j)
         (near_more (difference_room l (omega (arith, law.shaped.deep)))
-        (near_sub (near_average l (omega arith) i j hi hj)
-        (near_constant l (omega arith) (spread_to (suc l)) (average s p (suc l)) (pos 127) (near_average (suc l) (omega arith)) i j hi hj)))
+        (near_sub (averaged l (omega arith) i j hi hj)
+        (near_constant l (omega arith) (127 + spread_to (suc l)) (reference s manner g (suc l)) (pos 127)
+        (λ i j hi hj. near_trans (near_reference (suc l) (omega arith) i j hi hj) (averaged (suc l) (omega arith) i j hi hj)) i j hi hj)))
 
-    small-value : (l : ℕ) → l ≤ s.depth → NearAt s law l limit (λ i j. value_of s l (index s p l i j)) (λ i j. pos 0)
+    small-value : (l : ℕ) → l ≤ s.depth → NearAt s law l limit (λ i j. value_of s l (index s manner g l i j)) (λ i j. pos 0)
     unfolding index tolerance
     small-value l hl i j hi hj =
         near_more (omega (arith, (law.binned l hl).most))
-        (near_trans (near_index s l (difference s p l i j) (law.binned l hl)) (small-difference (s.depth - l) l (omega arith) i j hi hj))
+        (near_trans (near_index s l (difference s manner g l i j) (law.binned l hl)) (small-difference (s.depth - l) l (omega arith) i j hi hj))
 
   -- ---- rebuilt values
 
@@ -142,24 +163,33 @@ module _ (s : Settings) (law : Lawful s) where
   unfolding value_of
   least_value l m b = rw (abs-*ℤ m (pos (bin s l))) (omega (arith, mul-le-mul_left (nat_abs m) b.least))
 
-  -- of any level 0 whose values at the nodes are those of bytes
-  pub ranges_of : (p : Level) → Legal p → CodingRanges s p
-  ranges_of p legal = record {
-    averages = λ l hl. each l (small-average p legal l hl) limit (omega arith);
-    differences = λ l hl. each l (small-difference p legal (s.depth - l) l (omega arith)) limit (omega arith);
-    values = λ l hl. each l (small-value p legal l hl) limit (omega arith);
-    indices = λ l hl i j hi hj. le_trans (least_value l (index s p l i j) (law.binned l hl)) (each l (small-value p legal l hl) limit (omega arith) i j hi hj);
-    reduce_sums = λ l hl. reduce_sums_lem l hl (average s p l) limit (wider l (small-average p legal l (omega arith)) limit (omega arith));
-    expand_sums = λ l hl. expand_sums_lem l hl (average s p (suc l)) limit (wider (suc l) (small-average p legal (suc l) hl) limit (omega arith));
+  -- of any levels that are as near 127 as averages are
+  ranges_of : (manner : Manner) (g : ℕ → Level) → Averaged g → CodingRanges s manner g
+  ranges_of manner g averaged = record {
+    averages = λ l hl. each l (small-average manner g averaged l hl) limit (omega arith);
+    references = λ l hl. each l (small-reference manner g averaged l hl) limit (omega arith);
+    differences = λ l hl. each l (small-difference manner g averaged (s.depth - l) l (omega arith)) limit (omega arith);
+    values = λ l hl. each l (small-value manner g averaged l hl) limit (omega arith);
+    indices = λ l hl i j hi hj. le_trans (least_value l (index s manner g l i j) (law.binned l hl)) (each l (small-value manner g averaged l hl) limit (omega arith) i j hi hj);
+    reduce_sums = λ l hl. reduce_sums_lem l hl (g l) limit (wider l (small-average manner g averaged l (omega arith)) limit (omega arith));
+    expand_sums = λ l hl. expand_sums_lem l hl (reference s manner g (suc l)) limit (small-reference manner g averaged (suc l) hl);
   }
 
   module _ (picture : List ℕ) (bytes : Bytes picture) where
-    pub pixels_legal : Legal (pixels s.columns picture)
+    pixels_legal : Legal (pixels s.columns picture)
     unfolding pixels
     pixels_legal i j hi hj = let h = bytes (j * s.columns + i) in pos_near (omega arith) (omega arith)
 
-    pub coding_ranges : CodingRanges s (pixels s.columns picture)
-    coding_ranges = ranges_of (pixels s.columns picture) pixels_legal
+    picture_averaged : Averaged (average s (pixels s.columns picture))
+    picture_averaged = near_average (pixels s.columns picture) pixels_legal
+
+    pub coding_ranges : (manner : Manner) → CodingRanges s manner (average s (pixels s.columns picture))
+    coding_ranges manner = ranges_of manner (average s (pixels s.columns picture)) picture_averaged
+
+    -- of levels that hold its averages
+    pub ranges_like : (manner : Manner) (g : ℕ → Level) → ((l : ℕ) → l ≤ s.depth → EachNode s l (λ i j. g l i j ≡ average s (pixels s.columns picture) l i j))
+        → CodingRanges s manner g
+    ranges_like manner g same = ranges_of manner g (λ l hl i j hi hj. rw (same l hl i j (omega arith) (omega arith)) (picture_averaged l hl i j hi hj))
 
   pub rebuilding_ranges : (levels : List ℤ) → T (values_ok s levels) → RebuildingRanges s (read_levels s levels)
   unfolding values_ok

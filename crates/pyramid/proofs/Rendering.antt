@@ -46,8 +46,9 @@ module _ {A : Type 0} where
     pub rendering_row : {w' : List A} → at ≡ 0 → w' ≡ splice (j * columns) (tabulate columns (λ i. f i j)) w → j < rows → Rendering at columns rows f l w' (j + 1)
     rendering_row z e h = let p : at + j * columns ≡ j * columns = omega (arith, z) in rendering_next (e ∙ rw p) h
 
-    pub rendering_after : (f' t : ℕ) → at + rows * columns ≤ f' → part f' t w ≡ part f' t l
-    rendering_after f' t k = rw r.is (part_after at (raster columns j f) l (omega (arith, rows_room)) f' t (omega (arith, rows_room)))
+    -- what is not yet written
+    pub rendering_rest : (f' t : ℕ) → at + j * columns ≤ f' → part f' t w ≡ part f' t l
+    rendering_rest f' t k = rw r.is (part_after at (raster columns j f) l (omega (arith, rows_room)) f' t (omega (arith, long_rows)))
 
     pub rendering_before : (f' t : ℕ) → f' ≤ t → t ≤ at → part f' t w ≡ part f' t l
     rendering_before f' t k m = rw r.is (part-before at (raster columns j f) l (omega (arith, rows_room)) f' t k m)

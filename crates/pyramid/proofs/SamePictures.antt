@@ -1,15 +1,16 @@
--- Level 0 determines the averages and the indices of all levels at their nodes: what it is elsewhere does not matter, nor what holds the
--- averages. Assumes nothing.
-use mathlib.Core.Path.{◌≡◌, sym, ap, ◌∙◌}
+-- Level 0 determines the averages of all levels at their nodes, and these their indices and what is predicted from: what a level is elsewhere
+-- does not matter. Assumes nothing.
+use mathlib.Core.Path.{◌≡◌, refl, ap}
 use Prim.Native.Nat.{ℕ, zero, suc, ◌+◌, ◌-◌, ◌≤◌}
 use native.Mathlib.Omega.{arith}
-use lib.IntN.{◌-ℤ◌, +ℤ_idr}
 use Rattle.pyramid.specs.declared.Settings.{Settings}
+use Rattle.pyramid.specs.declared.Manner.{Manner}
+use Rattle.pyramid.specs.declared.Manner.TheVariants.{OpenLoop, ClosedLoop}
 use Rattle.pyramid.specs.Inner.Lawful.{Lawful}
 use Rattle.pyramid.specs.Definitions.Sizes.{Level}
-use Rattle.pyramid.specs.Definitions.Pyramid.{index_of, average, difference, index}
+use Rattle.pyramid.specs.Definitions.Pyramid.{index_of, average}
+use Rattle.pyramid.specs.Definitions.Manners.{closed_rebuilt, reference, difference, index}
 use Rattle.pyramid.specs.Inner.Ranges.{EachNode}
-use Rattle.pyramid.specs.Inner.Layers.{predicted, index_at}
 use Rattle.pyramid.proofs.Differences.{difference_top, difference_below}
 use Rattle.pyramid.proofs.LevelSteps.{reduced-same, expanded-same}
 
@@ -20,17 +21,27 @@ module _ (s : Settings) (law : Lawful s) where
   average-same p q same (suc l) h i j hi hj =
       reduced-same s law l h (average s p l) (average s q l) (average-same p q same l (omega arith)) i j hi hj
 
-  -- indices that are made of levels which hold the averages
-  module _ (p : Level) (g : ℕ → Level) (holds : (l : ℕ) → l ≤ s.depth → EachNode s l (λ i j. g l i j ≡ average s p l i j)) where
-    difference_held : (d l : ℕ) → l + d ≡ s.depth → EachNode s l (λ i j. g l i j -ℤ predicted s d l g i j ≡ difference s p l i j)
-    unfolding predicted
-    difference_held zero l e i j hi hj = +ℤ_idr (g l i j) ∙ holds l (omega arith) i j hi hj ∙ sym (difference_top s p l (omega arith) i j)
-    difference_held (suc d) l e i j hi hj =
-        let own = holds l (omega arith) i j hi hj in
-        let below = difference_below s p l (omega arith) i j in
-        let above = expanded-same s law l (omega arith) (g (suc l)) (average s p (suc l)) (holds (suc l) (omega arith)) i j hi hj in
-        cc
+  -- levels that agree at their nodes
+  module _ (g h : ℕ → Level) (same : (l : ℕ) → l ≤ s.depth → EachNode s l (λ i j. g l i j ≡ h l i j)) where
+    closed-same : (d l : ℕ) → l + d ≡ s.depth → EachNode s l (λ i j. closed_rebuilt s g d l i j ≡ closed_rebuilt s h d l i j)
+    unfolding closed_rebuilt
+    closed-same zero l e i j hi hj = rw (same l (omega arith) i j hi hj) refl
+    closed-same (suc d) l e i j hi hj =
+        let above = expanded-same s law l (omega arith) (closed_rebuilt s g d (suc l)) (closed_rebuilt s h d (suc l)) (closed-same d (suc l) (omega arith)) i j hi hj in
+        rw (same l (omega arith) i j hi hj, above) refl
 
-    pub index_held : (l : ℕ) → l ≤ s.depth → EachNode s l (λ i j. index_at s g l i j ≡ index s p l i j)
-    unfolding index_at index
-    index_held l h i j hi hj = ap (index_of s l) (difference_held (s.depth - l) l (omega arith) i j hi hj)
+    pub reference-same : (manner : Manner) (l : ℕ) → l ≤ s.depth → EachNode s l (λ i j. reference s manner g l i j ≡ reference s manner h l i j)
+    unfolding reference
+    reference-same OpenLoop l deep = same l deep
+    reference-same ClosedLoop l deep = closed-same (s.depth - l) l (omega arith)
+
+    difference-same : (manner : Manner) (d l : ℕ) → l + d ≡ s.depth → EachNode s l (λ i j. difference s manner g l i j ≡ difference s manner h l i j)
+    difference-same manner zero l e i j hi hj =
+        rw (difference_top s manner g l (omega arith) i j, difference_top s manner h l (omega arith) i j) (same l (omega arith) i j hi hj)
+    difference-same manner (suc d) l e i j hi hj =
+        let above = expanded-same s law l (omega arith) (reference s manner g (suc l)) (reference s manner h (suc l)) (reference-same manner (suc l) (omega arith)) i j hi hj in
+        rw (difference_below s manner g l (omega arith) i j, difference_below s manner h l (omega arith) i j, same l (omega arith) i j hi hj, above) refl
+
+    pub index-same : (manner : Manner) (l : ℕ) → l ≤ s.depth → EachNode s l (λ i j. index s manner g l i j ≡ index s manner h l i j)
+    unfolding index
+    index-same manner l deep i j hi hj = ap (index_of s l) (difference-same manner (s.depth - l) l (omega arith) i j hi hj)

@@ -1,13 +1,11 @@
 -- Rebuilt values row by row and level by level, from the top down. Assumes nothing.
-use mathlib.Core.Path.{◌≡◌, refl, ap, ◌∙◌, subst}
+use mathlib.Core.Path.{◌≡◌, ap, ◌∙◌, subst}
 use mathlib.Core.List.{List}
-use Prim.Native.Nat.{ℕ, zero, suc, ◌+◌, ◌-◌, ◌*◌, ◌≤◌, ◌<◌}
+use Prim.Native.Nat.{ℕ, zero, suc, ◌+◌, ◌-◌, ◌≤◌, ◌<◌}
 use native.Mathlib.Omega.{arith}
-use lib.IntN.{ℤ, pos, ◌+ℤ◌, ◌*ℤ◌, +ℤ_idr}
-use lib.ListN.{length, get_or, take}
+use lib.IntN.{ℤ, pos, ◌+ℤ◌, +ℤ_idr}
+use lib.ListN.{length, get_or}
 use Rattle.mathematics.specs.Inner.Splices.{splice}
-use Rattle.mathematics.specs.Definitions.Tables.{tabulate}
-use Rattle.mathematics.proofs.Tables.{tabulate-same, get_or-tabulate}
 use Rattle.pyramid.specs.declared.Settings.{Settings}
 use Rattle.pyramid.specs.Definitions.Settings.{bin}
 use Rattle.pyramid.specs.Inner.Lawful.{Lawful}
@@ -16,17 +14,16 @@ use Rattle.pyramid.specs.Definitions.Rebuilding.{value_of, rebuild, rebuilt}
 use Rattle.pyramid.specs.Definitions.Buffers.{level_raster, all_levels, start, read_levels}
 use Rattle.pyramid.specs.Inner.Ranges.{EachNode, RebuildingRanges}
 use Rattle.pyramid.specs.Inner.Rows.{ValuesWithin}
-use Rattle.pyramid.specs.Inner.Layers.{predicted, value_at, LevelSmall, ValueLevel}
-use Rattle.pyramid.proofs.Buffers.{raster-same}
-use Rattle.pyramid.proofs.Rendering.{Rendering, rendering_row}
-use Rattle.pyramid.proofs.LevelParts.{start-next, level_inside, read_before}
-use Rattle.pyramid.proofs.LevelPlaces.{topped, length_topped, topped_first, topped_next, read_topped, topped_last}
+use Rattle.pyramid.specs.Inner.Layers.{predicted, value_at, ValueLevel}
+use Rattle.pyramid.proofs.MadeRows.{Made}
+use Rattle.pyramid.proofs.LevelParts.{start-next, level_inside}
+use Rattle.pyramid.proofs.LevelPlaces.{topped, length_topped, topped_first, topped_done, read_topped, topped_last}
 use Rattle.pyramid.proofs.PredictedRows.{predicted-same, row_of, length_row, row_node}
 
 -- ---- row by row: j rows of level l are there, from the level's place on
 
 abbrev pub Values : Settings → ℕ → (levels w here₀ here : List ℤ) → ℕ → Type 0
-Values s l levels w here₀ here j = Rendering 0 (columns_at s l) (rows_at s l) (value_at s (read_levels s levels) (read_levels s w) l) here₀ here j
+Values s l levels w here₀ here j = Made s l (λ m e. value_of s l m +ℤ e) (read_levels s levels l) (read_levels s w) 0 here₀ here j
 
 module _ {s : Settings} {l : ℕ} {levels w : List ℤ} (v : ValueLevel s l levels w) where
   pub value_room : start s l + nodes_at s l ≤ length w
@@ -34,10 +31,10 @@ module _ {s : Settings} {l : ℕ} {levels w : List ℤ} (v : ValueLevel s l leve
 
   -- the indices of row j
   module _ {j : ℕ} (turn : j < rows_at s l) where
-    pub length_indices : length (row_of s l j levels) ≡ columns_at s l
+    length_indices : length (row_of s l j levels) ≡ columns_at s l
     length_indices = length_row s l j v.deep turn levels (omega (arith, v.filled))
 
-    index_node : (i : ℕ) → i < columns_at s l → get_or (row_of s l j levels) i (pos 0) ≡ read_levels s levels l i j
+    pub index_node : (i : ℕ) → i < columns_at s l → get_or (row_of s l j levels) i (pos 0) ≡ read_levels s levels l i j
     index_node = row_node s l j v.deep turn levels (omega (arith, v.filled))
 
     pub values_within : ValuesWithin (row_of s l j levels) (bin s l)
@@ -45,31 +42,6 @@ module _ {s : Settings} {l : ℕ} {levels w : List ℤ} (v : ValueLevel s l leve
     values_within = record {
       at = λ i h. let hi : i < columns_at s l = omega (arith, length_indices) in record { small = rw (index_node i hi) (v.values i j hi turn) };
     }
-
-  -- the level above, as it is read from what stands before level l
-  module _ {before : List ℤ} (front : before ≡ take (start s l) w) where
-    above_kept : suc l ≤ s.depth → EachNode s (suc l) (λ i j. read_levels s before (suc l) i j ≡ read_levels s w (suc l) i j)
-    above_kept h i j hi hj = rw front (read_before s w l i j h hi hj)
-
-    pub above_small : LevelSmall s (suc l) 524288 before
-    above_small = record { small = λ h x y hx hy. rw (above_kept h x y hx hy) (v.above.small h x y hx hy) }
-
-    -- the next row, from its indices and its prediction
-    pub values_next : (law : Lawful s) → {here₀ here : List ℤ} {j : ℕ} → Values s l levels w here₀ here j → nodes_at s l ≤ length here₀ → j < rows_at s l
-        → {at n : ℕ} {indices made here' : List ℤ} → at ≡ j * columns_at s l → indices ≡ row_of s l j levels
-        → made ≡ tabulate (columns_at s l) (λ i. predicted s (s.depth - l) l (read_levels s before) i j)
-        → n ≡ columns_at s l → here' ≡ splice at (tabulate n (λ i. get_or indices i (pos 0) *ℤ pos (bin s l) +ℤ get_or made i (pos 0))) here → Values s l levels w here₀ here' (j + 1)
-    unfolding value_at value_of
-    values_next law {here = here} {j = j} r room turn place e f width is =
-        rendering_row r (omega (arith, room)) refl
-        (is ∙ rw (place, e, f, width)
-        (ap (λ (xs : List ℤ). splice (j * columns_at s l) xs here)
-        (tabulate-same (columns_at s l) _ _ (λ i hi. rw (
-          index_node turn i hi,
-          get_or-tabulate (columns_at s l) (λ i. predicted s (s.depth - l) l (read_levels s before) i j) (pos 0) i hi,
-          predicted-same s law l v.deep (read_levels s before) (read_levels s w) above_kept i j hi turn,
-        )))))
-        turn
 
 -- ---- level by level, from the top down
 
@@ -116,13 +88,9 @@ module _ {s : Settings} {levels w : List ℤ} (g : Rebuildable s levels w) where
           → Rebuilding s levels w work' (start s l + nodes_at s l)
       unfolding value_at
       level_done e = record {
-        is =
-            e
-            ∙ ap (λ (xs : List ℤ). splice (start s l) xs work)
-            (raster-same (columns_at s l) (rows_at s l) (value_at s (read_levels s levels) (read_levels s work) l) (values s levels l)
-            (λ i j hi hj. rw (predicted-same s g.law l deep (read_levels s work) (values s levels) read_above i j hi hj) (rebuilt_from_lem s (read_levels s levels) (s.depth - l) l (omega arith) i j)))
-            ∙ ap (splice (start s l) (level_raster s (values s levels) l)) r.is
-            ∙ topped_next s (values s levels) w g.long l deep;
+        is = topped_done s (values s levels) w g.long l deep (value_at s (read_levels s levels) (read_levels s work))
+            (λ i j hi hj. rw (predicted-same s g.law l deep (read_levels s work) (values s levels) read_above i j hi hj) (rebuilt_from_lem s (read_levels s levels) (s.depth - l) l (omega arith) i j))
+            r.is e;
       }
 
     -- with it

@@ -1,15 +1,18 @@
--- Rebuilt values lie within each level's bound of the averages. Assumes nothing.
+-- Rebuilt values lie within each level's bound of the averages, open-loop; what the closed loop rebuilds, within half its own bin.
+-- Assumes nothing.
 use mathlib.Core.Path.{◌≡◌, subst}
 use Prim.Native.Nat.{ℕ, zero, suc, ◌+◌, ◌≤◌}
 use native.Mathlib.Omega.{arith}
-use lib.IntN.{ℤ, ◌-ℤ◌, -ℤ-+ℤ_cancel}
-use Rattle.mathematics.proofs.Distance.{Near, near_more, near_add}
+use lib.IntN.{ℤ, ◌+ℤ◌, ◌-ℤ◌, -ℤ-+ℤ_cancel}
+use Rattle.mathematics.proofs.Distance.{Near, near_refl, near_more, near_add}
 use Rattle.quantizer.proofs.Bins.{bin_near}
 use Rattle.pyramid.specs.declared.Settings.{Settings}
+use Rattle.pyramid.specs.declared.Manner.TheVariants.{OpenLoop}
 use Rattle.pyramid.specs.Definitions.Settings.{bin}
 use Rattle.pyramid.specs.Definitions.Sizes.{Level, last}
-use Rattle.pyramid.specs.Definitions.Pyramid.{expanded, index_of, average, difference, index}
+use Rattle.pyramid.specs.Definitions.Pyramid.{expanded, index_of}
 use Rattle.pyramid.specs.Definitions.Rebuilding.{value_of, rebuild}
+use Rattle.pyramid.specs.Definitions.Manners.{quantized, closed_rebuilt, reference, difference, index}
 use Rattle.pyramid.specs.Definitions.Bound.{magnified, tolerance, bound}
 use Rattle.pyramid.specs.Inner.Lawful.{LawfulBin, Lawful}
 use Rattle.pyramid.proofs.Sizes.{last-suc, last_least}
@@ -32,19 +35,32 @@ module _ (s : Settings) (law : Lawful s) where
       near_expand law.shaped.kernel (last s.columns (suc l)) (last s.rows (suc l)) e u v close (last_least law.shaped.across (suc l) hl) (last_least law.shaped.along (suc l) hl)
       i j (omega (arith, last-suc s.columns l)) (omega (arith, last-suc s.rows l))
 
-  module _ (p : Level) (m : ℕ → Level) (indices : (l : ℕ) → l ≤ s.depth → (i j : ℕ) → i ≤ last s.columns l → j ≤ last s.rows l → m l i j ≡ index s p l i j) where
-    near_values : (l : ℕ) → l ≤ s.depth → NearAt l (tolerance s l) (λ i j. value_of s l (m l i j)) (difference s p l)
-    unfolding index
-    near_values l h i j hi hj = rw (indices l h i j hi hj) (near_index s l (difference s p l i j) (law.binned l h))
+  -- whatever is taken off before and added after
+  near_quantized : (l : ℕ) → l ≤ s.depth → (x e : ℤ) → Near (tolerance s l) (quantized s l (x -ℤ e) +ℤ e) x
+  unfolding quantized
+  near_quantized l h x e =
+      near_more (omega arith)
+      (subst (Near (tolerance s l + 0) (quantized s l (x -ℤ e) +ℤ e)) (-ℤ-+ℤ_cancel x e) (near_add (near_index s l (x -ℤ e) (law.binned l h)) (near_refl e)))
 
-    pub within : (d l : ℕ) → l + d ≡ s.depth → NearAt l (bound s d l) (rebuild s m d l) (average s p l)
-    unfolding bound rebuild
-    within zero l e i j hi hj = subst (Near (tolerance s l) (value_of s l (m l i j))) (difference_top s p l (omega arith) i j) (near_values l (omega arith) i j hi hj)
+  -- what the closed loop rebuilds while it codes
+  pub near_closed : (g : ℕ → Level) (d l : ℕ) → l + d ≡ s.depth → NearAt l (tolerance s l) (closed_rebuilt s g d l) (g l)
+  unfolding closed_rebuilt quantized
+  near_closed g zero l e i j hi hj = near_index s l (g l i j) (law.binned l (omega arith))
+  near_closed g (suc d) l e i j hi hj = near_quantized l (omega arith) (g l i j) _
+
+  module _ (g : ℕ → Level) (m : ℕ → Level) (indices : (l : ℕ) → l ≤ s.depth → (i j : ℕ) → i ≤ last s.columns l → j ≤ last s.rows l → m l i j ≡ index s OpenLoop g l i j) where
+    near_values : (l : ℕ) → l ≤ s.depth → NearAt l (tolerance s l) (λ i j. value_of s l (m l i j)) (difference s OpenLoop g l)
+    unfolding index
+    near_values l h i j hi hj = rw (indices l h i j hi hj) (near_index s l (difference s OpenLoop g l i j) (law.binned l h))
+
+    pub within : (d l : ℕ) → l + d ≡ s.depth → NearAt l (bound s d l) (rebuild s m d l) (g l)
+    unfolding bound rebuild reference
+    within zero l e i j hi hj = subst (Near (tolerance s l) (value_of s l (m l i j))) (difference_top s OpenLoop g l (omega arith) i j) (near_values l (omega arith) i j hi hj)
     within (suc d) l e i j hi hj =
-        let own : Near (tolerance s l) (value_of s l (m l i j)) (average s p l i j -ℤ expanded s l (average s p (suc l)) i j) =
-        subst (Near (tolerance s l) (value_of s l (m l i j))) (difference_below s p l (omega arith) i j) (near_values l (omega arith) i j hi hj) in
+        let own : Near (tolerance s l) (value_of s l (m l i j)) (g l i j -ℤ expanded s l (g (suc l)) i j) =
+        subst (Near (tolerance s l) (value_of s l (m l i j))) (difference_below s OpenLoop g l (omega arith) i j) (near_values l (omega arith) i j hi hj) in
         near_more (omega arith)
         (subst (Near (tolerance s l + magnified s.kernel (bound s d (suc l))) (rebuild s m (suc d) l i j))
-        (-ℤ-+ℤ_cancel (average s p l i j) (expanded s l (average s p (suc l)) i j))
+        (-ℤ-+ℤ_cancel (g l i j) (expanded s l (g (suc l)) i j))
         (near_add own
-        (near_expanded l (omega arith) (bound s d (suc l)) (rebuild s m d (suc l)) (average s p (suc l)) (within d (suc l) (omega arith)) i j hi hj)))
+        (near_expanded l (omega arith) (bound s d (suc l)) (rebuild s m d (suc l)) (g (suc l)) (within d (suc l) (omega arith)) i j hi hj)))

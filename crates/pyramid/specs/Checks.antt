@@ -6,3 +6,4 @@ pub mod Conditions
 pub mod Refused
 pub mod SizeAtFault
 pub mod WorkedPasses
+pub mod WorkedLoops

@@ -8,6 +8,7 @@ pub mod Steps
 pub mod Passes
 pub mod Pyramid
 pub mod Rebuilding
+pub mod Manners
 pub mod Bound
 pub mod Buffers
 pub mod Refusals

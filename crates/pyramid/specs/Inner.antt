@@ -4,3 +4,4 @@ pub mod Ranges
 pub mod Rows
 pub mod RowSums
 pub mod Layers
+pub mod Bounds

@@ -1,2 +1,3 @@
 pub mod Accuracy
+pub mod ClosedLoop
 pub mod RowsThenColumns

@@ -1,9 +1,10 @@
-// The bound of each level (document 01, "Pyramid steps").
+// The bound of each level (document 01, "Pyramid steps"; document 02, P4).
 ghost use Rattle.std.specs.Prelude.{◌≡◌, ◌≤◌};
 ghost use Rattle.pyramid.specs.Definitions.Bound.{magnified};
 ghost use Rattle.pyramid.specs.Definitions.Answers.{bound_slots};
+ghost use Rattle.pyramid.specs.Inner.Bounds.{carried};
 
-use crate::LawfulSettings;
+use crate::{LawfulSettings, Manner};
 
 // A distance times the kernel's multiplier, rounded up: 1.96 for kernel 6, 1 for the others.
 fn magnify(kernel: u16, distance: u16) -> u16
@@ -16,9 +17,20 @@ fn magnify(kernel: u16, distance: u16) -> u16
     distance
 }
 
+// What the bound of a level takes from that of the level above it.
+fn carried(manner: Manner, kernel: u16, distance: u16) -> u16
+    requires { distance ≤ 30000 }
+    ensures { result ≡ carried manner kernel distance }
+{
+    match manner {
+        Manner::OpenLoop => magnify(kernel, distance),
+        Manner::ClosedLoop => 0,
+    }
+}
+
 // The bound of each level in its slot.
-pub fn bound_slots(lawful: LawfulSettings) -> [u16; 7]
-    ensures { result ≡ bound_slots lawful }
+pub fn bound_slots(lawful: LawfulSettings, manner: Manner) -> [u16; 7]
+    ensures { result ≡ bound_slots lawful manner }
 {
     // Of the settings only the bins are copied, which takes less stack.
     let bins = lawful.settings.bins;
@@ -27,7 +39,7 @@ pub fn bound_slots(lawful: LawfulSettings) -> [u16; 7]
     let mut bound = bins[top] / 2;
     out[top] = bound;
     for l in (0..top).rev() {
-        bound = magnify(lawful.settings.kernel, bound) + bins[l] / 2;
+        bound = carried(manner, lawful.settings.kernel, bound) + bins[l] / 2;
         out[l] = bound;
     }
     out

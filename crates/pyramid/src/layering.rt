@@ -1,24 +1,26 @@
-// All levels in their order (document 01, "Pyramid steps" and "Buffers"): averages upward, indices, rebuilt values downward.
+// All levels in their order (document 01, "Pyramid steps" and "Buffers"): averages upward, coding and rebuilding downward.
 ghost use Rattle.std.specs.Prelude.{◌≡◌, suc, ◌+◌, ◌-◌, ◌≤◌, ◌<◌, length};
 ghost use Rattle.mathematics.specs.Definitions.Tables.{tabulate};
 ghost use Rattle.mathematics.specs.Inner.Splices.{splice};
+ghost use Rattle.pyramid.specs.declared.Manner.TheVariants.{OpenLoop};
 ghost use Rattle.pyramid.specs.Definitions.Sizes.{columns_at, rows_at, total};
 ghost use Rattle.pyramid.specs.Definitions.Pyramid.{average};
 ghost use Rattle.pyramid.specs.Definitions.Rebuilding.{rebuilt};
+ghost use Rattle.pyramid.specs.Definitions.Manners.{reference, index};
 ghost use Rattle.pyramid.specs.Definitions.Buffers.{level_raster, all_levels, start, read_levels};
 ghost use Rattle.pyramid.specs.Definitions.Refusals.{values_ok};
 ghost use Rattle.pyramid.specs.Inner.Ranges.{CodingRanges, RebuildingRanges};
-ghost use Rattle.pyramid.specs.Inner.Layers.{predicted, index_at, value_at, LevelSmall, IndexLevel, Holds, ValueLevel};
+ghost use Rattle.pyramid.specs.Inner.Layers.{predicted, index_at, kept_at, value_at, LevelSmall, CodeLevel, ValueLevel};
 
 use crate::levels::Level;
-use crate::{LawfulSettings, averaging, copying, expanding, limits};
+use crate::{LawfulSettings, Manner, averaging, copying, expanding, limits};
 
 // Kept: that the buffers hold all levels, in a clause of each function that goes through them and in the words of specs/Inner: a type for a
 // lent buffer and its settings would be made for one call in coding and in rebuilding, and taken apart there again.
 // The averages of all levels, from the picture at its place: each level is reduced to the one above it, which ends where it starts.
 pub fn average_levels(lawful: LawfulSettings, work: &mut [i32])
     requires long { total lawful ≤ length work.old }
-    requires coding_ranges { CodingRanges lawful (read_levels lawful work.old 0) }
+    requires coding_ranges { CodingRanges lawful OpenLoop (average lawful (read_levels lawful work.old 0)) }
     ensures { work.new ≡ splice 0 (all_levels lawful (average lawful (read_levels lawful work.old 0))) work.old }
 {
     for l in 0..lawful.settings.depth {
@@ -48,14 +50,15 @@ fn predict_row(level: Level, j: usize, before: &[i32], sums: &mut [i32], row: &m
     }
 }
 
-// Kept beside `value_level`: they share the frame of a loop and no step, for this one reads the work buffer and writes indices, that one
-// reads indices and writes the work buffer. One function for both would take a closure for the row, and its contract would have to speak of
-// what that closure has done after each call.
-// The indices of a level, from the averages.
-fn index_level(level: Level, work: &[i32], levels: &mut [i16])
-    requires { IndexLevel level.settings level.number work.now levels.old }
-    ensures { let s = level.settings in levels.new ≡
-        splice (start s level.number) (level_raster s (index_at s (read_levels s work.now)) level.number) levels.old }
+// Kept beside `value_level`: they share the law of what a row is made of (proofs/MadeRows.antt) and no step, for this one writes indices and
+// that one reads them, from a buffer that is lent for reading alone.
+// Codes a level in a manner: its indices, from its averages, and what the manner keeps in the place of these.
+fn code_level(level: Level, manner: Manner, work: &mut [i32], levels: &mut [i16])
+    requires { CodeLevel level.settings level.number work.old levels.old }
+    ensures levels_after { let s = level.settings in levels.new ≡
+        splice (start s level.number) (level_raster s (index_at s (read_levels s work.old)) level.number) levels.old }
+    ensures work_after { let s = level.settings in work.new ≡
+        splice (start s level.number) (level_raster s (kept_at s manner (read_levels s work.old)) level.number) work.old }
 {
     let bin = level.bin();
     let columns = level.columns();
@@ -63,21 +66,27 @@ fn index_level(level: Level, work: &[i32], levels: &mut [i16])
     let row = &mut row[..columns];
     let mut sums: [i32; 65] = [0; 65];
     let from = level.start();
+    let (before, here) = work.split_at_mut(from);
     for j in 0..level.rows() {
-        predict_row(level, j, work, &mut sums, row);
-        let at = from + j * columns;
-        let to = at + columns;
-        copying::index_row(&work[at..to], row, bin, &mut levels[at..to]);
+        predict_row(level, j, before, &mut sums, row);
+        let at = j * columns;
+        let place = from + at;
+        let indices = &mut levels[place..place + columns];
+        copying::code_row(manner, &mut here[at..at + columns], row, bin, indices);
     }
 }
 
-// The indices of all levels, from the averages.
-pub fn index_levels(lawful: LawfulSettings, work: &[i32], levels: &mut [i16])
-    requires { Holds lawful work.now levels.old }
-    ensures { levels.new ≡ all_levels lawful (index_at lawful (read_levels lawful work.now)) }
+// Codes all levels in a manner, from the averages: from the top down, since each is predicted from what is kept of the one above it.
+pub fn code_levels(lawful: LawfulSettings, manner: Manner, work: &mut [i32], levels: &mut [i16])
+    requires lengths { (length levels.old ≡ total lawful) × (total lawful ≤ length work.old) }
+    requires coding_ranges { CodingRanges lawful manner (read_levels lawful work.old) }
+    ensures levels_after { levels.new ≡ all_levels lawful (index lawful manner (read_levels lawful work.old)) }
+    ensures work_after { work.new ≡
+        splice 0 (all_levels lawful (reference lawful manner (read_levels lawful work.old))) work.old }
 {
-    for l in 0..=lawful.settings.depth {
-        index_level(lawful.level(l), work, levels);
+    let top = lawful.settings.depth;
+    for l in (0..=top).rev() {
+        code_level(lawful.level(l), manner, work, levels);
     }
 }
 
@@ -91,17 +100,15 @@ fn value_level(level: Level, levels: &[i16], work: &mut [i32])
 {
     let bin = level.bin();
     let columns = level.columns();
-    let mut row: [i32; 129] = [0; 129];
-    let row = &mut row[..columns];
-    let mut sums: [i32; 65] = [0; 65];
     let from = level.start();
+    let mut sums: [i32; 65] = [0; 65];
     let (before, here) = work.split_at_mut(from);
     for j in 0..level.rows() {
-        predict_row(level, j, before, &mut sums, row);
         let at = j * columns;
+        let values = &mut here[at..at + columns];
+        predict_row(level, j, before, &mut sums, values);
         let place = from + at;
-        let indices = &levels[place..place + columns];
-        copying::value_row(indices, row, bin, &mut here[at..at + columns]);
+        copying::value_row(&levels[place..place + columns], bin, values);
     }
 }
 

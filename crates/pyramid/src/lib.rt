@@ -3,9 +3,11 @@
 
 ghost use Rattle.std.specs.Prelude.{◌≡◌, [], ◌∷◌, T, length};
 ghost use Rattle.refusals.specs.Definitions.Outcomes.{outcome};
+ghost use Rattle.pyramid.specs.declared.Manner.TheVariants.{OpenLoop, ClosedLoop};
 ghost use Rattle.pyramid.specs.Definitions.Answers.{nodes_answer, shape_answer, size_of, level_size_answer, bounds_answer, deepest_answer};
-ghost use Rattle.pyramid.specs.Definitions.Pyramid.{average, index};
+ghost use Rattle.pyramid.specs.Definitions.Pyramid.{average};
 ghost use Rattle.pyramid.specs.Definitions.Rebuilding.{rebuilt, clamp};
+ghost use Rattle.pyramid.specs.Definitions.Manners.{reference, index};
 ghost use Rattle.pyramid.specs.Definitions.Buffers.{raster, pixels, all_levels, read_levels};
 ghost use Rattle.pyramid.specs.Definitions.Refusals.{first, settings_refusal, buffers_refusal, values_ok, levels_refusal};
 ghost use Rattle.pyramid.specs.Definitions.Calls.{in_work, coding, rebuilding};
@@ -46,6 +48,14 @@ pub struct Settings {
     pub bins: [u16; 7],
 }
 
+// How a picture is coded: each level below the top is predicted from the average above it, or from the level above as it was rebuilt
+// (document 02, P4).
+#[derive(Clone, Copy)]
+pub enum Manner {
+    OpenLoop,
+    ClosedLoop,
+}
+
 // The columns and rows of a picture or of a level.
 #[derive(Clone, Copy, PartialEq, Eq)]
 pub struct Dimensions {
@@ -77,13 +87,21 @@ pub fn level_size(s: Settings, level: u16) -> Result<Dimensions, Refusal>
     Ok(shape.level_size(level))
 }
 
-// How far a rebuilt value of each level can lie from its average, each in its slot; 0 in the slots above the depth. Refused: 1, 13, 14, 15, 2,
-// 3.
+// How far a rebuilt value of each level can lie from its average, each in its slot; 0 in the slots above the depth. It holds whichever coder
+// made the levels. Refused: 1, 13, 14, 15, 2, 3.
 pub fn level_bounds(s: Settings) -> Result<[u16; 7], Refusal>
-    ensures { result ≡ outcome (bounds_answer s).refusal (bounds_answer s).levels }
+    ensures { result ≡ outcome (bounds_answer s OpenLoop).refusal (bounds_answer s OpenLoop).levels }
 {
     let lawful = LawfulSettings::new(s)?;
-    Ok(bounding::bound_slots(lawful))
+    Ok(bounding::bound_slots(lawful, Manner::OpenLoop))
+}
+
+// The same of levels that the closed-loop coder made. Refused: 1, 13, 14, 15, 2, 3.
+pub fn closed_loop_bounds(s: Settings) -> Result<[u16; 7], Refusal>
+    ensures { result ≡ outcome (bounds_answer s ClosedLoop).refusal (bounds_answer s ClosedLoop).levels }
+{
+    let lawful = LawfulSettings::new(s)?;
+    Ok(bounding::bound_slots(lawful, Manner::ClosedLoop))
 }
 
 // Kept: columns and rows one by one, here and in what tests them: they are asked about before they are known to be the dimensions of a picture, of
@@ -130,7 +148,7 @@ fn accepted(
 }
 
 // Kept: the three buffers one by one, as in the exported functions: a coding writes two of them, a rebuilding two others.
-// Codes a picture: its indices in the level buffer, its averages in the work buffer.
+// Codes a picture, open-loop: its indices in the level buffer, its averages in the work buffer.
 // Refused: 1, 13, 14, 15, 2, 3, 5, 6, 7.
 pub fn coding(
     s: Settings,
@@ -138,27 +156,70 @@ pub fn coding(
     levels: &mut [i16],
     work: &mut [i32],
 ) -> Result<(), Refusal>
-    ensures value { result ≡ outcome (coding s picture.now levels.old work.old).answer tt }
+    ensures value { result ≡ outcome (coding s OpenLoop picture.now levels.old work.old).answer tt }
     ensures levels_after { levels.new ≡
-        (coding s picture.now levels.old work.old).levels }
+        (coding s OpenLoop picture.now levels.old work.old).levels }
     ensures work_after { work.new ≡
-        (coding s picture.now levels.old work.old).work }
+        (coding s OpenLoop picture.now levels.old work.old).work }
+{
+    code_picture(s, Manner::OpenLoop, picture, levels, work)
+}
+
+// Codes a picture, closed-loop: its indices in the level buffer and, in the work buffer, what rebuilding from these leaves there: the unclamped
+// values of all levels.
+// Refused: 1, 13, 14, 15, 2, 3, 5, 6, 7.
+pub fn closed_loop_coding(
+    s: Settings,
+    picture: &[u8],
+    levels: &mut [i16],
+    work: &mut [i32],
+) -> Result<(), Refusal>
+    ensures value { result ≡ outcome (coding s ClosedLoop picture.now levels.old work.old).answer tt }
+    ensures levels_after { levels.new ≡
+        (coding s ClosedLoop picture.now levels.old work.old).levels }
+    ensures work_after { work.new ≡
+        (coding s ClosedLoop picture.now levels.old work.old).work }
+{
+    code_picture(s, Manner::ClosedLoop, picture, levels, work)
+}
+
+// Codes a picture in a manner.
+fn code_picture(
+    s: Settings,
+    manner: Manner,
+    picture: &[u8],
+    levels: &mut [i16],
+    work: &mut [i32],
+) -> Result<(), Refusal>
+    ensures value { result ≡ outcome (coding s manner picture.now levels.old work.old).answer tt }
+    ensures levels_after { levels.new ≡
+        (coding s manner picture.now levels.old work.old).levels }
+    ensures work_after { work.new ≡
+        (coding s manner picture.now levels.old work.old).work }
 {
     let lawful = accepted(s, picture.len(), levels.len(), work.len())?;
-    code(lawful, picture, levels, work);
+    code(lawful, manner, picture, levels, work);
     Ok(())
 }
 
-fn code(lawful: LawfulSettings, picture: &[u8], levels: &mut [i16], work: &mut [i32])
+fn code(
+    lawful: LawfulSettings,
+    manner: Manner,
+    picture: &[u8],
+    levels: &mut [i16],
+    work: &mut [i32],
+)
     requires { Sized lawful (length picture.now) (length levels.old) (length work.old) }
-    ensures levels_after { levels.new ≡ all_levels lawful (index lawful (pixels lawful.columns picture.now)) }
-    ensures work_after { work.new ≡ in_work lawful (average lawful (pixels lawful.columns picture.now)) work.old }
+    ensures levels_after { levels.new ≡
+        all_levels lawful (index lawful manner (average lawful (pixels lawful.columns picture.now))) }
+    ensures work_after { work.new ≡
+        in_work lawful (reference lawful manner (average lawful (pixels lawful.columns picture.now))) work.old }
 {
     let level = lawful.level(0);
     let from = level.start();
     copying::load(picture, &mut work[from..from + level.nodes()]);
     layering::average_levels(lawful, work);
-    layering::index_levels(lawful, work, levels);
+    layering::code_levels(lawful, manner, work, levels);
 }
 
 // Rebuilds a picture from its level buffer: the unclamped values in the work buffer, the clamped ones in the picture.

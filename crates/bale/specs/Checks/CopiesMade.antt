@@ -22,7 +22,7 @@ pub record Suits (old : Settings) (c : Copy) : Type 0 where
 
 pub record CopyMade (bytes : List ℕ) (c : Copy) : Type 0 where
   pub refused : copy_refusal bytes c ≢ 0 → (copied bytes c ≡ bytes) × (copy_bound bytes c ≡ 0)
-  pub accepted : copy_refusal bytes c ≡ 0 → ((check_file (copied bytes c)).settings ≡ c.settings) × (copy_bound bytes c ≡ bound_at c.settings 0)
+  pub accepted : copy_refusal bytes c ≡ 0 → ((check_file (copied bytes c)).settings ≡ c.settings) × (copy_bound bytes c ≡ bound_at c.settings c.manner 0)
   pub made : Suits (check_file bytes).settings c → copy_refusal bytes c ≡ 0
 
 abbrev pub CopiesMade : Type 0

@@ -1,7 +1,8 @@
--- An archive: a first picture that is coded and written with its note, and copies of its file into other settings (document 01,
--- "Generations", of files). Assumes nothing.
+-- An archive: a first picture that is coded and written with its note, and copies of its file into other settings, each coded in either
+-- manner (document 01, "Generations", of files; document 02, P4). Assumes nothing.
 use Rattle.std.specs.Prelude.{◌≡◌, List, [], ◌∷◌, ℕ, ◌+◌, ℤ, length, take}
 use Rattle.pyramid.specs.declared.Settings.{Settings}
+use Rattle.pyramid.specs.declared.Manner.{Manner}
 use Rattle.pyramid.specs.Definitions.Bound.{bound_at}
 use Rattle.pyramid.specs.Definitions.Buffers.{Bytes}
 use Rattle.pyramid.specs.Definitions.Refusals.{first}
@@ -16,11 +17,13 @@ written_bytes w = take w.answer.size w.file
 
 -- ---- the first file
 
--- The picture, the settings that it is coded with, the note, and the buffers of both calls, of any length and contents; what follows says no
--- more than the types of these: a picture is bytes, there are seven bins, readings are what an enum of a 32-bit float and a number holds
+-- The picture, the settings and the manner that it is coded with, the note, and the buffers of both calls, of any length and contents; what
+-- follows says no more than the types of these: a picture is bytes, there are seven bins, readings are what an enum of a 32-bit float and a
+-- number holds
 pub record Filing : Type 0 where
   pub picture : List ℕ
   pub settings : Settings
+  pub manner : Manner
   pub note : Note
   pub levels : List ℤ
   pub work : List ℤ
@@ -32,7 +35,7 @@ pub record Filing : Type 0 where
 
 module _ (f : Filing) where
   abbrev pub first_coded : CodingOutcome
-  first_coded = coding f.settings f.picture f.levels f.work
+  first_coded = coding f.settings f.manner f.picture f.levels f.work
 
   abbrev pub first_written : WriteOutcome
   first_written = write_file f.settings f.note first_coded.levels f.file
@@ -42,10 +45,11 @@ module _ (f : Filing) where
 
 -- ---- a copy
 
--- The settings that the picture is coded with, lawful or not, and the buffers of its four calls, of any length and contents: those lent to
--- the reader, to the rebuilding, to the coding and to the writer
+-- The settings that the picture is coded with, lawful or not, the manner, and the buffers of its four calls, of any length and contents:
+-- those lent to the reader, to the rebuilding, to the coding and to the writer
 pub record Copy : Type 0 where
   pub settings : Settings
+  pub manner : Manner
   pub read : List ℤ
   pub picture : List ℕ
   pub work : List ℤ
@@ -54,7 +58,7 @@ pub record Copy : Type 0 where
   pub file : List ℕ
   pub seven : length settings.bins ≡ 7
 
--- the file at hand is read and rebuilt, the picture coded with the copy's settings and written with the note that was read
+-- the file at hand is read and rebuilt, the picture coded with the copy's settings in its manner and written with the note that was read
 module _ (bytes : List ℕ) (c : Copy) where
   abbrev pub source : ReadOutcome
   source = read_file bytes c.read
@@ -63,7 +67,7 @@ module _ (bytes : List ℕ) (c : Copy) where
   shown = rebuilding source.answer.settings source.levels c.picture c.work
 
   abbrev pub recoded : CodingOutcome
-  recoded = coding c.settings shown.picture c.levels c.coding_work
+  recoded = coding c.settings c.manner shown.picture c.levels c.coding_work
 
   abbrev pub rewritten : WriteOutcome
   rewritten = write_file c.settings source.answer.note recoded.levels c.file
@@ -76,9 +80,9 @@ module _ (bytes : List ℕ) (c : Copy) where
   unfoldable pub copied : List ℕ
   copied = leaves copy_refusal (written_bytes rewritten) bytes
 
-  -- the bound of the copy's level 0 where it is accepted, else 0
+  -- the bound of the copy's level 0 in its manner where it is accepted, else 0
   unfoldable pub copy_bound : ℕ
-  copy_bound = leaves copy_refusal (bound_at c.settings 0) 0
+  copy_bound = leaves copy_refusal (bound_at c.settings c.manner 0) 0
 
 -- ---- any list of copies: the file at hand after it, and the sum of the accepted copies' level 0 bounds
 

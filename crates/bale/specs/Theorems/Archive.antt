@@ -28,5 +28,5 @@ pub record Shows (first : List ℕ) (note : Note) (within : ℕ) (bytes : List �
 abbrev pub Archive : Type 0
 Archive =
     (f : Filing) (copies : List Copy) → filing_refusal f ≡ 0
-    → Shows f.picture f.note (bound_at f.settings 0 + copies_sum (written_bytes (first_written f)) copies)
+    → Shows f.picture f.note (bound_at f.settings f.manner 0 + copies_sum (written_bytes (first_written f)) copies)
     (file_after (written_bytes (first_written f)) copies)

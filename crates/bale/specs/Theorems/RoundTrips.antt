@@ -3,6 +3,7 @@ use Rattle.std.specs.Prelude.{◌≡◌, List, ◌++◌, ℕ, ◌≤◌, T, ℤ,
 use Rattle.std.specs.Int.{w16}
 use Rattle.std.proofs.Common.{SFits}
 use Rattle.pyramid.specs.declared.Settings.{Settings}
+use Rattle.pyramid.specs.declared.Manner.{Manner}
 use Rattle.pyramid.specs.Definitions.Sizes.{total}
 use Rattle.pyramid.specs.Definitions.Buffers.{Bytes}
 use Rattle.pyramid.specs.Definitions.Calls.{coding}
@@ -42,9 +43,10 @@ pub record ReadIsWritten (bytes : List ℕ) (lent : List ℤ) : Type 0 where
 abbrev pub ReadThenWritten : Type 0
 ReadThenWritten = (bytes : List ℕ) (lent : List ℤ) → Bytes bytes → read_refusal bytes (length lent) ≡ 0 → ReadIsWritten bytes lent
 
--- ---- coded, then written: the writer accepts whatever levels an accepted coding leaves
+-- ---- coded, then written: the writer accepts whatever levels an accepted coding leaves, in either manner
 
 abbrev pub CodedThenWritten : Type 0
 CodedThenWritten =
-    (s : Settings) (note : Note) (picture : List ℕ) (levels work : List ℤ) (room : ℕ) → Bytes picture → (coding s picture levels work).answer ≡ 0
-    → T (note_ok note) → file_length s ≤ room → write_refusal s note (coding s picture levels work).levels room ≡ 0
+    (s : Settings) (note : Note) (manner : Manner) (picture : List ℕ) (levels work : List ℤ) (room : ℕ) → Bytes picture
+    → (coding s manner picture levels work).answer ≡ 0
+    → T (note_ok note) → file_length s ≤ room → write_refusal s note (coding s manner picture levels work).levels room ≡ 0

@@ -12,7 +12,7 @@ use Rattle.pyramid.specs.Inner.Accepted.{Accepted}
 use Rattle.pyramid.proofs.LentParts.{lent_back}
 use Rattle.pyramid.proofs.LevelParts.{start_bottom}
 use Rattle.pyramid.proofs.Pictures.{picture_nodes}
-use Rattle.pyramid.proofs.LoadedPictures.{loaded, averaged, loaded_ranges, averages_placed, averages_hold, indices_placed}
+use Rattle.pyramid.proofs.LoadedPictures.{loaded, averaged, loaded_ranges, averages_placed, averages_codable, indices_placed, kept_placed}
 use Rattle.pyramid.proofs.code.Goals as goal
 use Rattle.pyramid.proofs.code.Goals.{After-nodes}
 
@@ -63,15 +63,24 @@ average_levels-requires-clause-coding_ranges c =
     let n = (goal.at.average_levels-requires-clause-coding_ranges c).After-nodes in
     rw (loaded_is n c.load.ensures) (loaded_ranges (given n) (bytes n))
 
-pub index_levels-requires : goal.index_levels-requires
-index_levels-requires c =
-    let n = (goal.at.index_levels-requires c).After-nodes in
-    rw (averaged_is n (loaded_is n c.load.ensures) c.average_levels.ensures) (averages_hold (given n) (bytes n))
+-- what coding the levels asks of the averages that were made
+pub code_levels-requires-clause-lengths : goal.code_levels-requires-clause-lengths
+code_levels-requires-clause-lengths c =
+    let n = (goal.at.code_levels-requires-clause-lengths c).After-nodes in
+    let ready = averages_codable (given n) (bytes n) c.args.manner in
+    rw (averaged_is n (loaded_is n c.load.ensures) c.average_levels.ensures) (ready.filled, ready.long)
 
--- the indices are those of the averages that were made,
--- and the averages lie where they were made
+pub code_levels-requires-clause-coding_ranges : goal.code_levels-requires-clause-coding_ranges
+code_levels-requires-clause-coding_ranges c =
+    let n = (goal.at.code_levels-requires-clause-coding_ranges c).After-nodes in
+    rw (averaged_is n (loaded_is n c.load.ensures) c.average_levels.ensures) (averages_codable (given n) (bytes n) c.args.manner).ranges
+
+-- the indices are those of the averages that were made, and what is kept lies where they were
 pub returns : goal.returns
 returns c =
     let n = (goal.at.returns c).After-nodes in
     let a = averaged_is n (loaded_is n c.load.ensures) c.average_levels.ensures in
-    record { levels_after = (rw a at c.index_levels.ensures) ∙ indices_placed (given n) (bytes n); work_after = a }
+    record {
+      levels_after = (rw a at c.code_levels.ensures.levels_after) ∙ indices_placed (given n) (bytes n) c.args.manner;
+      work_after = (rw a at c.code_levels.ensures.work_after) ∙ kept_placed (given n) (bytes n) c.args.manner;
+    }

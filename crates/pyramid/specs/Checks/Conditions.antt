@@ -2,6 +2,7 @@
 -- propositions in the documents' words, beside the tests that Definitions have. Assumes nothing.
 use Rattle.std.specs.Prelude.{◌≡◌, ◌↔◌, List, [], ◌∷◌, ◌++◌, ℕ, ◌-◌, ◌*◌, ◌%◌, ◌^◌, ◌≤◌, ◌<◌, ℤ, pos, nat_abs, ◌*ℤ◌, length}
 use Rattle.pyramid.specs.declared.Settings.{Settings}
+use Rattle.pyramid.specs.declared.Manner.{Manner}
 use Rattle.pyramid.specs.Definitions.Settings.{bin}
 use Rattle.pyramid.specs.Definitions.Sizes.{columns_at, rows_at, total}
 use Rattle.pyramid.specs.Definitions.Buffers.{read_levels}
@@ -78,12 +79,13 @@ module _ (s : Settings) where
 -- ---- the calls
 
 pub record Conditions (s : Settings) : Type 0 where
-  pub of_coding : (picture : List ℕ) (levels work : List ℤ) → Given (coding_rules s picture levels work) (coding s picture levels work).answer
+  pub of_coding : (manner : Manner) (picture : List ℕ) (levels work : List ℤ)
+      → Given (coding_rules s picture levels work) (coding s manner picture levels work).answer
   pub of_rebuilding : (levels : List ℤ) (picture : List ℕ) (work : List ℤ)
       → Given (coding_rules s picture levels work ++ (values_rule s levels ∷ [])) (rebuilding s levels picture work).answer
   pub of_settings : Given (settings_rules s) (settings_refusal s)
   pub of_levels : (levels : List ℤ) → Given (settings_rules s ++ (levels_rule s levels ∷ values_rule s levels ∷ [])) (levels_refusal s levels)
-  pub of_bounds : Given (settings_rules s) (bounds_answer s).refusal
+  pub of_bounds : (manner : Manner) → Given (settings_rules s) (bounds_answer s manner).refusal
   pub of_nodes : Given (settings_rules s) (nodes_answer s).refusal
   pub of_shape : Given (shape_rules s) (shape_answer s).refusal
   pub of_level_size : (l : ℕ) → Given (shape_rules s) (level_size_answer s l).refusal

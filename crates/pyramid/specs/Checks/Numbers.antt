@@ -1,6 +1,7 @@
 -- Which numbers each call can answer (document 01, "Who can cause which refusal"; document 02, P1), a row for each call. Assumes nothing.
 use Rattle.std.specs.Prelude.{Bool, true, false, cond, List, [], ◌∷◌, ◌++◌, ℕ, T, eqb, ℤ}
 use Rattle.pyramid.specs.declared.Settings.{Settings}
+use Rattle.pyramid.specs.declared.Manner.{Manner}
 use Rattle.pyramid.specs.Definitions.Refusals.{settings_refusal, levels_refusal}
 use Rattle.pyramid.specs.Definitions.Calls.{coding, rebuilding}
 use Rattle.pyramid.specs.Definitions.Answers.{bounds_answer, nodes_answer, shape_answer, level_size_answer, deepest_answer}
@@ -21,7 +22,7 @@ shape_numbers = 1 ∷ 13 ∷ 14 ∷ 15 ∷ 2 ∷ []
 abbrev pub settings_numbers : List ℕ
 settings_numbers = shape_numbers ++ (3 ∷ [])
 
--- coding; rebuilding looks for these and then 11
+-- coding in either manner; rebuilding looks for these and then 11
 abbrev pub coding_numbers : List ℕ
 coding_numbers = settings_numbers ++ (5 ∷ 6 ∷ 7 ∷ [])
 
@@ -33,11 +34,11 @@ abbrev pub levels_numbers : List ℕ
 levels_numbers = settings_numbers ++ (6 ∷ 11 ∷ [])
 
 pub record PyramidNumbers (s : Settings) : Type 0 where
-  pub of_coding : (picture : List ℕ) (levels work : List ℤ) → Answers coding_numbers (coding s picture levels work).answer
+  pub of_coding : (manner : Manner) (picture : List ℕ) (levels work : List ℤ) → Answers coding_numbers (coding s manner picture levels work).answer
   pub of_rebuilding : (levels : List ℤ) (picture : List ℕ) (work : List ℤ) → Answers rebuilding_numbers (rebuilding s levels picture work).answer
   pub of_settings : Answers settings_numbers (settings_refusal s)
   pub of_levels : (levels : List ℤ) → Answers levels_numbers (levels_refusal s levels)
-  pub of_bounds : Answers settings_numbers (bounds_answer s).refusal
+  pub of_bounds : (manner : Manner) → Answers settings_numbers (bounds_answer s manner).refusal
   pub of_nodes : Answers settings_numbers (nodes_answer s).refusal
   pub of_shape : Answers shape_numbers (shape_answer s).refusal
   pub of_level_size : (l : ℕ) → Answers shape_numbers (level_size_answer s l).refusal

@@ -2,10 +2,12 @@
 use Rattle.std.specs.Prelude.{◌≡◌, List, [], ◌∷◌, ℕ, ℤ, pos, negsuc, get_or, replicate}
 use Rattle.quantizer.specs.Definitions.Bins.{bin_index}
 use Rattle.pyramid.specs.declared.Settings.{Settings}
+use Rattle.pyramid.specs.declared.Manner.TheVariants.{OpenLoop}
 use Rattle.pyramid.specs.Definitions.Sizes.{Level}
 use Rattle.pyramid.specs.Definitions.Steps.{expand}
-use Rattle.pyramid.specs.Definitions.Pyramid.{average, difference}
+use Rattle.pyramid.specs.Definitions.Pyramid.{average}
 use Rattle.pyramid.specs.Definitions.Rebuilding.{rebuilt}
+use Rattle.pyramid.specs.Definitions.Manners.{difference}
 use Rattle.pyramid.specs.Definitions.Bound.{bound_at}
 use Rattle.pyramid.specs.Definitions.Buffers.{raster, pixels, read_levels}
 use Rattle.pyramid.specs.Definitions.Calls.{coding, rebuilding}
@@ -42,13 +44,13 @@ lent = replicate 13 (pos 0)
 
 pub record WorkedPieces : Type 0 where
   pub average_a : raster 2 2 (average piece_a (pixels 3 picture_a) 1) ≡ replicate 4 (pos 25)
-  pub difference_a : raster 3 3 (difference piece_a (pixels 3 picture_a) 0) ≡ centred (pos 75) (negsuc 24)
-  pub accepted_a : (coding piece_a picture_a lent lent).answer ≡ 0
-  pub indices_a : (coding piece_a picture_a lent lent).levels ≡ levels_a
+  pub difference_a : raster 3 3 (difference piece_a OpenLoop (average piece_a (pixels 3 picture_a)) 0) ≡ centred (pos 75) (negsuc 24)
+  pub accepted_a : (coding piece_a OpenLoop picture_a lent lent).answer ≡ 0
+  pub indices_a : (coding piece_a OpenLoop picture_a lent lent).levels ≡ levels_a
   pub unclamped_a : raster 3 3 (rebuilt piece_a (read_levels piece_a levels_a) 0) ≡ centred (pos 94) (negsuc 5)
   pub accepted_levels_a : (rebuilding piece_a levels_a corner lent).answer ≡ 0
   pub rebuilt_a : (rebuilding piece_a levels_a corner lent).picture ≡ centred 94 0
-  pub bounds_a : (bound_at piece_a 1 ≡ 2) × (bound_at piece_a 0 ≡ 7)
+  pub bounds_a : (bound_at piece_a OpenLoop 1 ≡ 2) × (bound_at piece_a OpenLoop 0 ≡ 7)
   pub average_corner : raster 2 2 (average (small 6 1 1) (pixels 3 corner) 1) ≡ pos 163 ∷ pos 270 ∷ pos 270 ∷ pos 252 ∷ []
   pub expand_minus_one : raster 3 3 (expand 4 1 1 minus_one) ≡
       negsuc 0 ∷ pos 0 ∷ pos 0 ∷
@@ -57,5 +59,5 @@ pub record WorkedPieces : Type 0 where
   pub bin2 : (bin_index (pos 1) 2 ≡ pos 0) × (bin_index (negsuc 0) 2 ≡ negsuc 0)
   pub bin255 : (bin_index (pos 127) 255 ≡ pos 0) × (bin_index (pos 128) 255 ≡ pos 1)
   pub bin1 : bin_index (pos 7) 1 ≡ pos 7
-  pub bound_kernel5 : bound_at (small 5 1 2) 0 ≡ 1
-  pub bound_kernel6 : bound_at (small 6 1 2) 0 ≡ 2
+  pub bound_kernel5 : bound_at (small 5 1 2) OpenLoop 0 ≡ 1
+  pub bound_kernel6 : bound_at (small 6 1 2) OpenLoop 0 ≡ 2

@@ -4,6 +4,7 @@ use Rattle.std.specs.Prelude.{cond, List, ℕ, leb, replicate}
 use Rattle.mathematics.specs.Definitions.Tables.{tabulate}
 use Rattle.pyramid.specs.declared.Settings.{Settings}
 use Rattle.pyramid.specs.declared.Dimensions.{Dimensions}
+use Rattle.pyramid.specs.declared.Manner.{Manner}
 use Rattle.pyramid.specs.Definitions.Settings.{size_ok}
 use Rattle.pyramid.specs.Definitions.Sizes.{columns_at, rows_at, total}
 use Rattle.pyramid.specs.Definitions.Bound.{bound_at}
@@ -30,11 +31,11 @@ pub record DeepestAnswer : Type 0 where
   pub depth : ℕ
 
 -- the bound of level l in slot l, 0 in the slots above N
-unfoldable pub bound_slots : Settings → List ℕ
-bound_slots s = tabulate 7 (λ l. cond (leb l s.depth) (bound_at s l) 0)
+unfoldable pub bound_slots : Settings → Manner → List ℕ
+bound_slots s manner = tabulate 7 (λ l. cond (leb l s.depth) (bound_at s manner l) 0)
 
-unfoldable pub bounds_answer : Settings → BoundsAnswer
-bounds_answer s = record { refusal = settings_refusal s; levels = leaves (settings_refusal s) (bound_slots s) (replicate 7 0) }
+unfoldable pub bounds_answer : Settings → Manner → BoundsAnswer
+bounds_answer s manner = record { refusal = settings_refusal s; levels = leaves (settings_refusal s) (bound_slots s manner) (replicate 7 0) }
 
 -- T
 unfoldable pub nodes_answer : Settings → NodesAnswer

@@ -1,7 +1,9 @@
--- The bound of each level (document 01, "Pyramid steps"): half its bin and, below the top, what EXPAND makes of the bound above it.
--- Assumes nothing.
+-- The bound of each level (document 01, "Pyramid steps"): half its bin and, below the top, what EXPAND makes of the bound above it. In a
+-- closed loop half its bin alone (document 02, P4). Assumes nothing.
 use Rattle.std.specs.Prelude.{cond, ℕ, zero, suc, ◌+◌, ◌-◌, ◌*◌, ◌/◌, eqb}
 use Rattle.pyramid.specs.declared.Settings.{Settings}
+use Rattle.pyramid.specs.declared.Manner.{Manner}
+use Rattle.pyramid.specs.declared.Manner.TheVariants.{OpenLoop, ClosedLoop}
 use Rattle.pyramid.specs.Definitions.Settings.{bin}
 
 -- the multiplier in hundredths: 100, or 196 for kernel 6
@@ -17,10 +19,12 @@ module _ (s : Settings) where
   unfoldable pub tolerance : ℕ → ℕ
   tolerance l = bin s l / 2
 
-  -- the bound of level l, which has d levels above it
+  -- the open-loop bound of level l, which has d levels above it
   unfoldable pub bound : ℕ → ℕ → ℕ
   bound zero l = tolerance l
   bound (suc d) l = magnified s.kernel (bound d (suc l)) + tolerance l
 
-  abbrev pub bound_at : ℕ → ℕ
-  bound_at l = bound (s.depth - l) l
+  -- the bound of level l
+  unfoldable pub bound_at : Manner → ℕ → ℕ
+  bound_at OpenLoop l = bound (s.depth - l) l
+  bound_at ClosedLoop l = tolerance l

@@ -1,5 +1,5 @@
--- The averages g, the differences L and the indices of a picture (document 01, "Pyramid steps"). Assumes nothing.
-use Rattle.std.specs.Prelude.{cond, ℕ, zero, suc, eqb, ℤ, ◌-ℤ◌}
+-- The averages g of a picture, and the index of a value (document 01, "Pyramid steps"). Assumes nothing.
+use Rattle.std.specs.Prelude.{ℕ, zero, suc, ℤ}
 use Rattle.quantizer.specs.Definitions.Bins.{bin_index}
 use Rattle.pyramid.specs.declared.Settings.{Settings}
 use Rattle.pyramid.specs.Definitions.Settings.{bin}
@@ -22,11 +22,3 @@ module _ (s : Settings) where
   unfoldable pub average : Level → ℕ → Level
   average p zero = p
   average p (suc l) = reduced l (average p l)
-
-  -- L of level l: at level N it is g, else g less EXPAND of the next g up
-  unfoldable pub difference : Level → ℕ → Level
-  difference p l i j = cond (eqb l s.depth) (average p l i j) (average p l i j -ℤ expanded l (average p (suc l)) i j)
-
-  -- the indices of level l
-  unfoldable pub index : Level → ℕ → Level
-  index p l i j = index_of l (difference p l i j)

@@ -3,12 +3,13 @@
 use Rattle.std.specs.Prelude.{ℕ, suc, ◌*◌, ◌+◌, ◌^◌, ◌≤◌, ◌<◌, ℤ, nat_abs, ◌*ℤ◌}
 use Rattle.mathematics.specs.Definitions.Sums.{sum}
 use Rattle.pyramid.specs.declared.Settings.{Settings}
+use Rattle.pyramid.specs.declared.Manner.{Manner}
 use Rattle.pyramid.specs.Definitions.Sizes.{Level, last, columns_at, rows_at}
 use Rattle.pyramid.specs.Definitions.Weights.{weight}
 use Rattle.pyramid.specs.Definitions.Edge.{reflect}
 use Rattle.pyramid.specs.Definitions.Steps.{even_weight, halved}
-use Rattle.pyramid.specs.Definitions.Pyramid.{average, difference, index}
 use Rattle.pyramid.specs.Definitions.Rebuilding.{value_of, rebuilt}
+use Rattle.pyramid.specs.Definitions.Manners.{reference, difference, index}
 use Rattle.pyramid.specs.Definitions.Refusals.{limit}
 
 -- the part of a window that lies in one row, without that row's weight: a window is the sum of these, each times its row's weight
@@ -36,14 +37,15 @@ module _ (s : Settings) where
       EachNode l (λ i j. WindowSums (even_weight s.kernel i) (even_weight s.kernel j)
       (λ t. reflect (last s.columns (suc l)) (halved i t)) (λ t. reflect (last s.rows (suc l)) (halved j t)) g (14 * e) (14 * (14 * e)))
 
-  -- of coding a picture
-  pub record CodingRanges (p : Level) : Type 0 where
-    pub averages : (l : ℕ) → l ≤ s.depth → EachNode l (λ i j. nat_abs (average s p l i j) ≤ limit)
-    pub differences : (l : ℕ) → l ≤ s.depth → EachNode l (λ i j. nat_abs (difference s p l i j) ≤ limit)
-    pub values : (l : ℕ) → l ≤ s.depth → EachNode l (λ i j. nat_abs (value_of s l (index s p l i j)) ≤ limit)
-    pub indices : (l : ℕ) → l ≤ s.depth → EachNode l (λ i j. nat_abs (index s p l i j) ≤ limit)
-    pub reduce_sums : (l : ℕ) → l < s.depth → ReduceSums l (average s p l) limit
-    pub expand_sums : (l : ℕ) → l < s.depth → ExpandSums l (average s p (suc l)) limit
+  -- of coding averages g in a manner
+  pub record CodingRanges (manner : Manner) (g : ℕ → Level) : Type 0 where
+    pub averages : (l : ℕ) → l ≤ s.depth → EachNode l (λ i j. nat_abs (g l i j) ≤ limit)
+    pub references : (l : ℕ) → l ≤ s.depth → EachNode l (λ i j. nat_abs (reference s manner g l i j) ≤ limit)
+    pub differences : (l : ℕ) → l ≤ s.depth → EachNode l (λ i j. nat_abs (difference s manner g l i j) ≤ limit)
+    pub values : (l : ℕ) → l ≤ s.depth → EachNode l (λ i j. nat_abs (value_of s l (index s manner g l i j)) ≤ limit)
+    pub indices : (l : ℕ) → l ≤ s.depth → EachNode l (λ i j. nat_abs (index s manner g l i j) ≤ limit)
+    pub reduce_sums : (l : ℕ) → l < s.depth → ReduceSums l (g l) limit
+    pub expand_sums : (l : ℕ) → l < s.depth → ExpandSums l (reference s manner g (suc l)) limit
 
   -- of rebuilding from indices
   pub record RebuildingRanges (m : ℕ → Level) : Type 0 where

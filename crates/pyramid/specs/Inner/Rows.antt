@@ -1,9 +1,11 @@
 -- The steps row by row, for the contracts of functions inside this crate: a level read from a buffer, the part of a window that lies in one
 -- column, and what is put in the place of a part of a buffer. Assumes nothing.
-use Rattle.std.specs.Prelude.{◌≡◌, List, ℕ, ◌+◌, ◌-◌, ◌*◌, ◌/◌, ◌%◌, ◌≤◌, ◌<◌, ℤ, pos, nat_abs, ◌-ℤ◌, ◌*ℤ◌, length, get_or}
+use Rattle.std.specs.Prelude.{◌≡◌, List, ℕ, ◌+◌, ◌-◌, ◌*◌, ◌/◌, ◌%◌, ◌≤◌, ◌<◌, ℤ, pos, nat_abs, ◌+ℤ◌, ◌-ℤ◌, ◌*ℤ◌, length, get_or}
 use Rattle.mathematics.specs.Definitions.Sums.{sum}
 use Rattle.mathematics.specs.Inner.Splices.{part}
 use Rattle.quantizer.specs.Definitions.Bins.{bin_index}
+use Rattle.pyramid.specs.declared.Manner.{Manner}
+use Rattle.pyramid.specs.declared.Manner.TheVariants.{OpenLoop, ClosedLoop}
 use Rattle.pyramid.specs.Definitions.Edge.{reflect}
 use Rattle.pyramid.specs.Definitions.Sizes.{Level}
 use Rattle.pyramid.specs.Definitions.Refusals.{limit}
@@ -28,9 +30,16 @@ pub record Within (e : ℕ) (x : ℤ) : Type 0 where
 abbrev pub Small : ℕ → List ℤ → Type 0
 Small e buffer = (p : ℕ) → Within e (get_or buffer p (pos 0))
 
+-- what stands in the place of an average that was coded with this bin, and predicted to be e: open-loop the average, closed-loop the value of
+-- its index and e
+unfoldable pub kept : Manner → (average e : ℤ) → ℕ → ℤ
+kept OpenLoop average e n = average
+kept ClosedLoop average e n = bin_index (average -ℤ e) n *ℤ pos n +ℤ e
+
 -- the indices of the differences of two rows, and the values of a row's indices, lie within 4,096 of 0
 pub record IndicesWithin (averages predicted : List ℤ) (bin : ℕ) : Type 0 where
   pub at : (i : ℕ) → i < length averages → Within limit (bin_index (get_or averages i (pos 0) -ℤ get_or predicted i (pos 0)) bin)
+  pub values : (i : ℕ) → i < length averages → Within limit (bin_index (get_or averages i (pos 0) -ℤ get_or predicted i (pos 0)) bin *ℤ pos bin)
 
 pub record ValuesWithin (indices : List ℤ) (bin : ℕ) : Type 0 where
   pub at : (i : ℕ) → i < length indices → Within limit (get_or indices i (pos 0) *ℤ pos bin)

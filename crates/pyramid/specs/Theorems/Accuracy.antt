@@ -13,7 +13,7 @@ abbrev pub LevelsWithin : List ℕ → Generation → Type 0
 LevelsWithin picture g =
     (l i j : ℕ) → l ≤ g.settings.depth → i < columns_at g.settings l → j < rows_at g.settings l
     → nat_abs (read_levels g.settings (rebuilt_from picture g).work l i j -ℤ average g.settings (pixels g.settings.columns picture) l i j)
-    ≤ bound_at g.settings l
+    ≤ bound_at g.settings g.manner l
 
 -- so it is in each accepted generation of the list
 abbrev pub EachAccepted : List ℕ → List Generation → Type 0

@@ -10,7 +10,7 @@ pub overflow_add-bound : goal.overflow_add-bound
 overflow_add-bound c = let k = filled_next c.loop-l.invariant c.loop-l-test.true in omega arith
 
 pub loop-l-preserved : goal.loop-l-preserved
-loop-l-preserved c = rw c.magnify.ensures (filled_next c.loop-l.invariant c.loop-l-test.true)
+loop-l-preserved c = rw c.carried.ensures (filled_next c.loop-l.invariant c.loop-l-test.true)
 
 pub returns : goal.returns
 returns c = rw (← c.lawful.view_is) (filled_end c.loop-l.invariant (omega arith))

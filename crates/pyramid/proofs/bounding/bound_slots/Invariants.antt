@@ -3,4 +3,4 @@ use Rattle.pyramid.proofs.BoundSlots.{Filled}
 use Rattle.pyramid.proofs.bounding.bound_slots.Given as goal
 
 abbrev pub invariant-loop-l : goal.invariant-loop-l
-invariant-loop-l l = Filled l.lawful-inside.settings l.out l.l l.bound
+invariant-loop-l l = Filled l.lawful-inside.settings l.manner l.out l.l l.bound

@@ -14,11 +14,11 @@ pub loop-i-init : goal.loop-i-init
 loop-i-init c = replacing_start _ _ _
 
 pub overflow_sub-x : goal.overflow_sub-x
-overflow_sub-x c = difference-fits (c.requires.small c.loop-i.i) (unwritten (goal.at.overflow_sub-x c).In-loop-i)
+overflow_sub-x c = difference-fits tt tt tt (c.requires.small c.loop-i.i) (unwritten (goal.at.overflow_sub-x c).In-loop-i)
 
 pub loop-i-preserved : goal.loop-i-preserved
 loop-i-preserved c =
-    replacing_next c.loop-i.invariant (omega arith) (difference_held (c.requires.small c.loop-i.i) (unwritten (goal.at.loop-i-preserved c).In-loop-i))
+    replacing_next c.loop-i.invariant (omega arith) (difference_held tt tt tt (c.requires.small c.loop-i.i) (unwritten (goal.at.loop-i-preserved c).In-loop-i))
 
 pub returns : goal.returns
 returns c = replacing_end c.loop-i.invariant c.loop-i-test.false

@@ -1,11 +1,11 @@
--- `pyramid::coding` meets its contract: an accepted call is coded, and a refusal leaves both buffers as they were. Assumes nothing.
+-- `pyramid::code_picture` meets its contract: an accepted call is coded, and a refusal leaves both buffers as they were. Assumes nothing.
 use mathlib.Core.Path.{refl, sym}
 use Rattle.refusals.specs.Definitions.Outcomes.{outcome}
 use Rattle.refusals.proofs.Outcomes.{none, value-is, passed_on, some}
 use Rattle.pyramid.specs.Definitions.Refusals.{coding_refusal}
 use Rattle.pyramid.specs.Definitions.Calls.{leaves, coding}
 use Rattle.pyramid.proofs.Refusals.{accepted_coding, leaves_kept}
-use Rattle.pyramid.proofs.coding.Goals as goal
+use Rattle.pyramid.proofs.code_picture.Goals as goal
 
 pub returns-in_err-lawful : goal.returns-in_err-lawful
 unfolding coding coding_refusal
