@@ -43,10 +43,16 @@ fn outcome<F: FnOnce(&mut [u8], &mut [i16], &mut [i32]) -> Result<(), Refusal>>(
     (answer, left)
 }
 
-// Kept: this and `rebuilding` name the two calls, which take the buffers in another order; what both do is `outcome`.
+// Kept: this and the next two name the three calls, which take the buffers in another order; what they do is `outcome`.
 fn coding(s: Settings, n: Lengths, buffers: Buffers) -> Outcome {
     outcome(n, buffers, |picture, levels, work| {
         pyramid::coding(s, picture, levels, work)
+    })
+}
+
+fn closed_loop_coding(s: Settings, n: Lengths, buffers: Buffers) -> Outcome {
+    outcome(n, buffers, |picture, levels, work| {
+        pyramid::closed_loop_coding(s, picture, levels, work)
     })
 }
 
@@ -104,7 +110,33 @@ fn coded(before: Buffers, top: Top, nodes: usize) -> Buffers {
     left
 }
 
-// Whether a coding answers and leaves what is expected: where it is refused, every place as it was.
+// The index of a place and the value that a closed-loop coding leaves there. A top of bin 255 makes 255 of 200; at a bin of 2 the -55 that are
+// left have index -28, since -114 < -110 and -110 <= -110, and make 199; at a bin of 3 the 1 that is left has index 0.
+fn closed_at(top: Top, place: usize) -> (i16, i32) {
+    if place < top.nodes {
+        (top.index, top.value)
+    } else if top.value == 200 {
+        (0, 200)
+    } else if place < 21 {
+        (-28, 199)
+    } else {
+        (0, 199)
+    }
+}
+
+// What it leaves in both buffers.
+fn closed(before: Buffers, top: Top, nodes: usize) -> Buffers {
+    let mut left = before;
+    let n = nodes.min(72);
+    for i in 0..n {
+        let (index, value) = closed_at(top, i);
+        left.levels[i] = index;
+        left.work[i] = value;
+    }
+    left
+}
+
+// Whether both codings answer and leave what is expected: where they are refused, every place as it was.
 pub(crate) fn coding_gives(case: Case) -> bool {
     let s = case.settings;
     let n = case.lengths;
@@ -115,11 +147,14 @@ pub(crate) fn coding_gives(case: Case) -> bool {
                 levels: array::from_fn(unlawful_index),
                 ..Buffers::filled()
             };
-            coding(s, n, before) == (Ok(()), coded(before, Top::of(s), n.levels))
+            let top = Top::of(s);
+            coding(s, n, before) == (Ok(()), coded(before, top, n.levels))
+                && closed_loop_coding(s, n, before) == (Ok(()), closed(before, top, n.levels))
         }
         Err(refusal) => {
             let before = Buffers::filled().with(case.put);
             coding(s, n, before) == (Err(refusal), before)
+                && closed_loop_coding(s, n, before) == (Err(refusal), before)
         }
     }
 }

@@ -4,6 +4,7 @@ use crate::calling::Case;
 use crate::{base, calling, shapes};
 use pyramid::Settings;
 use refusals::Refusal;
+use std::array;
 use test_support::reporting::Checks;
 use test_support::rooms::Lengths;
 
@@ -55,6 +56,8 @@ pub(crate) fn check(t: &mut Checks, s: Settings, bounds: Result<[u16; 7], Refusa
     };
     t.check(nodes == answer.map(|()| base::NODES));
     t.check(pyramid::level_bounds(s) == bounds);
+    let halves: [u16; 7] = array::from_fn(|slot| s.bins[slot] / 2);
+    t.check(pyramid::closed_loop_bounds(s) == answer.map(|()| halves));
     t.check(calling::coding_gives(case));
     t.check(calling::rebuilding_gives(case));
     shapes::check(t, s, answer);

@@ -1,9 +1,10 @@
-// Checks rows of the quantizer and worked pieces of document 01 by calls, and every refusal of coding and rebuilding in its order, with what it leaves in the lent buffers.
+// Checks rows of the quantizer and worked pieces of document 01 by calls, and every refusal of both codings and rebuilding in its order, with what it leaves in the lent buffers.
 #![tactic(auto)]
 
 mod base;
 mod buffers;
 mod calling;
+mod closed;
 mod combinations;
 mod faults;
 mod lengths;
@@ -21,6 +22,7 @@ fn main(rt: HostRuntime) -> io::Result<()> {
         ("bin rule", rows::indices()),
         ("limits of indices", rows::limits()),
         ("piece A", pieces::piece_a()),
+        ("closed loop", closed::pieces()),
         ("sizes", pieces::sizes()),
         ("deepest depth", pieces::deepest_depths()),
         ("index limit", pieces::index_limit()),

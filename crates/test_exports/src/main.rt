@@ -23,6 +23,7 @@ fn main(rt: HostRuntime) -> io::Result<()> {
         ("deepest depth", numbers::depths()),
         ("nodes and sizes", numbers::sizes()),
         ("bounds", numbers::level_bounds()),
+        ("closed-loop bounds", numbers::closed_loop_bounds()),
         ("refused settings", numbers::refusals()),
         ("coding and rebuilding", pictures::accepted()),
         ("limits of rebuilding", pictures::limits()),

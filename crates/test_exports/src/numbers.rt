@@ -1,6 +1,7 @@
 // The calls that hand out numbers of a size or of settings. What they hand out is worked out by hand from document 01.
 // Kept: refusals are numbers, for the reason at `expected` in `lent`.
 use crate::lent::{BEFORE, BOUNDS_BEFORE, TALL, WIDE, answered, expected, faulty};
+use lepsarvu::closed;
 use pyramid::Settings;
 use test_support::reporting::Checks;
 
@@ -27,7 +28,7 @@ pub(crate) fn depths() -> Checks {
 }
 
 // The number that the call leaves, or the refusal.
-// Kept: this, `check_size` and `check_bounds` are one call each, to which each hands the same settings one by one, as C does; what they share
+// Kept: this, `check_size` and the two of bounds are one call each, to which each hands the same settings one by one, as C does; what they share
 // is `answered` and `expected`, and what is expected has a type of its own in each.
 fn check_nodes(t: &mut Checks, s: Settings, e: Result<u16, u16>) {
     let got = answered(BEFORE, |nodes| {
@@ -47,6 +48,13 @@ fn check_size(t: &mut Checks, s: Settings, e: Result<usize, u16>) {
 fn check_bounds(t: &mut Checks, s: Settings, e: Result<[u16; 7], u16>) {
     let got = answered(BOUNDS_BEFORE, |bounds| {
         lepsarvu::lepsarvu_level_bounds(s.columns, s.rows, s.depth, s.kernel, &s.bins, bounds)
+    });
+    t.check(got == expected(BOUNDS_BEFORE, e));
+}
+
+fn check_closed_bounds(t: &mut Checks, s: Settings, e: Result<[u16; 7], u16>) {
+    let got = answered(BOUNDS_BEFORE, |bounds| {
+        closed::lepsarvu_closed_loop_bounds(s.columns, s.rows, s.depth, s.kernel, &s.bins, bounds)
     });
     t.check(got == expected(BOUNDS_BEFORE, e));
 }
@@ -79,6 +87,18 @@ pub(crate) fn level_bounds() -> Checks {
     t
 }
 
+// Closed-loop half a bin, rounded down, whatever the kernel.
+pub(crate) fn closed_loop_bounds() -> Checks {
+    let mut t = Checks::new();
+    for s in [TALL, with_kernel_6(TALL)] {
+        check_closed_bounds(&mut t, s, Ok([3, 2, 1, 0, 0, 0, 0]));
+    }
+    for s in [WIDE, with_kernel_6(WIDE)] {
+        check_closed_bounds(&mut t, s, Ok([15, 8, 4, 11, 3, 1, 5]));
+    }
+    t
+}
+
 // Settings with each fault in turn. They leave the lent numbers as they were.
 pub(crate) fn refusals() -> Checks {
     let mut t = Checks::new();
@@ -87,6 +107,7 @@ pub(crate) fn refusals() -> Checks {
             check_nodes(&mut t, s, Err(refusal));
             check_size(&mut t, s, Err(refusal));
             check_bounds(&mut t, s, Err(refusal));
+            check_closed_bounds(&mut t, s, Err(refusal));
         }
     }
     t

@@ -1,4 +1,5 @@
 // Coding and rebuilding of 3 columns and 5 rows, N = 1, k = 6, bins 7 and 2. What is expected comes from tests/reference.
+use lepsarvu::closed;
 use pyramid::Settings;
 use std::array;
 use test_support::comparing::first_difference;
@@ -17,35 +18,53 @@ pub(crate) const PIXELS: usize = 15;
 
 pub(crate) const NODES: usize = 21;
 
+const PICTURE: [u8; 15] = [
+    0, 255, 17, 90, 3, 140, 61, 200, 38, 250, 12, 77, 129, 5, 231,
+];
+
 // Level 1 first: 2 columns and 3 rows.
 const INDICES: [i16; 21] = [
     41, 54, 59, 41, 47, 39, -10, 23, -15, -2, -14, 6, -10, 14, -5, 20, -12, 0, 5, -11, 22,
 ];
 
-// Coding of the picture leaves the indices and the averages.
+// A coding of the picture leaves indices, and values in the work buffer.
+fn check_left<F: FnOnce(&mut [i16], &mut [i32]) -> u16>(
+    t: &mut Checks,
+    indices: [i16; 21],
+    values: [i32; 21],
+    call: F,
+)
+    requires { F.IsAlwaysCallable call }
+{
+    let mut levels: [i16; 21] = array::from_fn(unlawful_index);
+    let mut work: [i32; 24] = array::from_fn(work_filler);
+    let answer = call(&mut levels, &mut work);
+    t.check(answer == 0);
+    t.check(levels == indices);
+    t.check(first_difference(&work, &values).is_none());
+    t.check(first_changed(&work, 21, work_filler).is_none());
+}
+
+// Open-loop the averages.
 fn check_coded(t: &mut Checks) {
-    let picture: [u8; 15] = [
-        0, 255, 17, 90, 3, 140, 61, 200, 38, 250, 12, 77, 129, 5, 231,
-    ];
     let averages: [i32; 21] = [
         83, 109, 118, 83, 95, 79, 0, 255, 17, 90, 3, 140, 61, 200, 38, 250, 12, 77, 129, 5, 231,
     ];
-    let mut levels: [i16; 21] = array::from_fn(unlawful_index);
-    let mut work: [i32; 24] = array::from_fn(work_filler);
-    let answer = lepsarvu::lepsarvu_coding(
-        3,
-        5,
-        1,
-        6,
-        &SETTINGS.bins,
-        &picture,
-        &mut levels,
-        &mut work,
-    );
-    t.check(answer == 0);
-    t.check(levels == INDICES);
-    t.check(first_difference(&work, &averages).is_none());
-    t.check(first_changed(&work, 21, work_filler).is_none());
+    check_left(t, INDICES, averages, |levels, work| {
+        lepsarvu::lepsarvu_coding(3, 5, 1, 6, &SETTINGS.bins, &PICTURE, levels, work)
+    });
+}
+
+// Closed-loop the rebuilt values: one index is another.
+fn check_closed(t: &mut Checks) {
+    let mut indices = INDICES;
+    indices[11] = 7;
+    let values: [i32; 21] = [
+        82, 108, 118, 82, 94, 78, -3, 255, 16, 87, 0, 143, 63, 200, 36, 251, 9, 75, 127, 6, 229,
+    ];
+    check_left(t, indices, values, |levels, work| {
+        closed::lepsarvu_closed_loop_coding(3, 5, 1, 6, &SETTINGS.bins, &PICTURE, levels, work)
+    });
 }
 
 // Rebuilding from the indices leaves the picture, whose first pixel is clamped, and the unclamped values.
@@ -75,6 +94,7 @@ fn check_rebuilt(t: &mut Checks) {
 pub(crate) fn accepted() -> Checks {
     let mut t = Checks::new();
     check_coded(&mut t);
+    check_closed(&mut t);
     check_rebuilt(&mut t);
     t
 }

@@ -1,7 +1,8 @@
-// Coding and rebuilding that are refused, with what they leave: all as it was.
+// Both codings and rebuilding that are refused, with what they leave: all as it was.
 // Kept: refusals are numbers, for the reason at `expected` in `lent`.
 use crate::lent::faulty;
 use crate::pictures::{NODES, PIXELS, SETTINGS};
+use lepsarvu::closed;
 use pyramid::Settings;
 use std::array;
 use test_support::fillers::{byte_filler, lawful_index, unlawful_index, work_filler};
@@ -45,15 +46,28 @@ fn check<F: FnOnce(&mut [u8], &mut [i16], &mut [i32]) -> u16>(
     t.check(work == before.work);
 }
 
-fn check_coding(t: &mut Checks, r: Refused) {
-    let s = r.settings;
-    let before = Buffers {
+// What a coding is lent.
+fn before_coding() -> Buffers {
+    Buffers {
         picture: [200; 16],
         levels: array::from_fn(lawful_index),
         work: array::from_fn(work_filler),
-    };
-    check(t, r, before, |picture, levels, work| {
+    }
+}
+
+fn check_coding(t: &mut Checks, r: Refused) {
+    let s = r.settings;
+    check(t, r, before_coding(), |picture, levels, work| {
         lepsarvu::lepsarvu_coding(
+            s.columns, s.rows, s.depth, s.kernel, &s.bins, picture, levels, work,
+        )
+    });
+}
+
+fn check_closed_loop_coding(t: &mut Checks, r: Refused) {
+    let s = r.settings;
+    check(t, r, before_coding(), |picture, levels, work| {
+        closed::lepsarvu_closed_loop_coding(
             s.columns, s.rows, s.depth, s.kernel, &s.bins, picture, levels, work,
         )
     });
@@ -74,8 +88,9 @@ fn check_rebuilding(t: &mut Checks, r: Refused, levels: [i16; 24]) {
     });
 }
 
-fn check_both(t: &mut Checks, r: Refused) {
+fn check_all(t: &mut Checks, r: Refused) {
     check_coding(t, r);
+    check_closed_loop_coding(t, r);
     check_rebuilding(t, r, array::from_fn(lawful_index));
     check_rebuilding(t, r, array::from_fn(unlawful_index));
 }
@@ -102,7 +117,7 @@ pub(crate) fn all() -> Checks {
             lengths: lawful,
             refusal,
         };
-        check_both(&mut t, r);
+        check_all(&mut t, r);
     }
     for (picture, levels, work, refusal) in LENGTHS {
         let r = Refused {
@@ -114,7 +129,7 @@ pub(crate) fn all() -> Checks {
             },
             refusal,
         };
-        check_both(&mut t, r);
+        check_all(&mut t, r);
     }
     let indices = Refused {
         settings: SETTINGS,

@@ -37,6 +37,7 @@ pub(crate) fn check_read<R: Read>(data: &mut R, z: Shape) -> io::Result<Option<F
     let case = Case {
         shape: z,
         expected,
+        wide: true,
         bytes,
     };
     Ok(rebuilding::check(case, indices))

@@ -10,6 +10,7 @@ mod rebuilding;
 mod shape;
 
 use parts::Finding;
+use pyramid::Manner;
 use shape::Shape;
 use std::fs::File;
 use std::{fs, io};
@@ -37,11 +38,16 @@ fn main(rt: HostRuntime) -> io::Result<()> {
     report(
         &rt,
         "pyramid.bin",
-        |data, z| pyramid_cases::check_read(data, z),
+        |data, z| pyramid_cases::check_read(data, z, Manner::OpenLoop),
     )?;
     report(
         &rt,
         "levels.bin",
         |data, z| levels_cases::check_read(data, z),
+    )?;
+    report(
+        &rt,
+        "closed.bin",
+        |data, z| pyramid_cases::check_read(data, z, Manner::ClosedLoop),
     )
 }

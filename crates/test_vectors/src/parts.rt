@@ -7,7 +7,9 @@ use test_support::reporting::Spot;
 pub(crate) enum Call {
     Nodes,
     Bounds,
+    ClosedLoopBounds,
     Coding,
+    ClosedLoopCoding,
     Rebuilding,
 }
 
@@ -16,7 +18,9 @@ impl fmt::Display for Call {
         f.write_str(match *self {
             Call::Nodes => "total_nodes",
             Call::Bounds => "level_bounds",
+            Call::ClosedLoopBounds => "closed_loop_bounds",
             Call::Coding => "coding",
+            Call::ClosedLoopCoding => "closed_loop_coding",
             Call::Rebuilding => "rebuilding",
         })
     }

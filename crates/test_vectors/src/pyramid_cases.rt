@@ -1,11 +1,12 @@
-// The cases of the file `pyramid`: a picture; the indices and averages of its coding; the values and the picture that are
-// rebuilt from these indices; the bounds. Both calls are accepted.
+// The cases of the files `pyramid` and `closed`: a picture; the indices and averages of its coding; the values and the picture that are
+// rebuilt from these indices; the bounds. Closed-loop there are no averages, and the values have 16 bits. Both calls are accepted.
 ghost use Rattle.std.specs.Prelude.{◌≤◌};
 
 use crate::parts::{Call, Finding, Part, cut};
 use crate::rebuilding::Case;
 use crate::shape::{MOST_BYTES, Shape};
 use crate::{coding, rebuilding};
+use pyramid::Manner;
 use std::io;
 use std::io::Read;
 use test_support::answers::compare;
@@ -40,31 +41,50 @@ fn compare_bounds(z: Shape, bytes: &[u8], slots: [u16; 7]) -> Option<Finding> {
     Finding::compared(Part::Bound, slot)
 }
 
-fn check_bounds(z: Shape, bytes: &[u8]) -> Option<Finding> {
-    let got = pyramid::level_bounds(z.settings);
+fn check_bounds(z: Shape, manner: Manner, bytes: &[u8]) -> Option<Finding> {
+    let (call, got) = match manner {
+        Manner::OpenLoop => (Call::Bounds, pyramid::level_bounds(z.settings)),
+        Manner::ClosedLoop => (
+            Call::ClosedLoopBounds,
+            pyramid::closed_loop_bounds(z.settings),
+        ),
+    };
     let found = compare(Part::Refusal, got, Ok(()), |slots, ()| {
         compare_bounds(z, bytes, slots)
     });
-    of_call(Call::Bounds, found)
+    of_call(call, found)
 }
 
-// Codes the picture of a case, and rebuilds it.
-fn check_calls(z: Shape, case: &[u8]) -> Option<Finding> {
+// Codes the picture of a case, and rebuilds it. Where the case has no averages, the values that coding leaves are those of the rebuilding.
+fn check_calls(z: Shape, manner: Manner, case: &[u8]) -> Option<Finding> {
+    let (wide, values) = match manner {
+        Manner::OpenLoop => (true, z.pixels + 4 * z.nodes),
+        Manner::ClosedLoop => (false, z.pixels + 2 * z.nodes),
+    };
     let rebuilt = Case {
         shape: z,
         expected: Ok(()),
-        bytes: rest(case, z.pixels + 4 * z.nodes),
+        wide,
+        bytes: rest(case, values),
     };
-    coding::check(z, case).or(rebuilding::check(rebuilt, rest(case, z.pixels)))
+    coding::check(z, manner, case).or(rebuilding::check(rebuilt, rest(case, z.pixels)))
 }
 
 // Reads a case and checks it.
-pub(crate) fn check_read<R: Read>(data: &mut R, z: Shape) -> io::Result<Option<Finding>> {
+pub(crate) fn check_read<R: Read>(
+    data: &mut R,
+    z: Shape,
+    manner: Manner,
+) -> io::Result<Option<Finding>> {
     let mut case: [u8; MOST_BYTES] = [0; MOST_BYTES];
-    let bounds = 2 * z.pixels + 8 * z.nodes;
+    let bounds = 2 * z.pixels
+        + match manner {
+            Manner::OpenLoop => 8 * z.nodes,
+            Manner::ClosedLoop => 4 * z.nodes,
+        };
     let Some(case) = read_part(data, &mut case, bounds + 2 * z.levels)? else {
         return Ok(Some(cut()));
     };
-    let settings = check_nodes(z).or(check_bounds(z, rest(case, bounds)));
-    Ok(settings.or(check_calls(z, case)))
+    let settings = check_nodes(z).or(check_bounds(z, manner, rest(case, bounds)));
+    Ok(settings.or(check_calls(z, manner, case)))
 }

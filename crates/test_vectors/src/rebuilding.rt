@@ -1,27 +1,47 @@
 // A rebuilding, accepted or refused.
+ghost use Rattle.std.specs.Prelude.{◌<◌};
+
 use crate::parts::{Call, Finding, Part};
 use crate::shape::{AFTER, MOST_NODES, MOST_PIXELS, MOST_PLACES, Shape};
 use refusals::Refusal;
 use test_support::answers;
 use test_support::comparing::{first_difference, first_other};
-use test_support::decoding::signed32_at;
+use test_support::decoding::{signed16_at, signed32_at};
 use test_support::fillers::{byte_filler, fill, first_changed, work_filler};
 use test_support::reading::{load_indices, rest};
 use test_support::reporting::of_call;
 
-// What is rebuilt, the answer, and the bytes of the values, of 32 bits each, and then of the picture.
+// What is rebuilt, the answer, and the bytes of the values, of 32 bits each or, where they are not wide, of 16, and then of the picture.
 #[derive(Clone, Copy)]
 pub(crate) struct Case<'a> {
     pub shape: Shape,
     pub expected: Result<(), Refusal>,
+    pub wide: bool,
     pub bytes: &'a [u8],
+}
+
+// The value of a place, and where the picture starts.
+fn value_at(c: Case, i: usize) -> i32
+    requires { i < 22359 }
+{
+    if c.wide {
+        return signed32_at(c.bytes, 4 * i);
+    }
+    i32::from(signed16_at(c.bytes, 2 * i))
+}
+
+fn picture_start(c: Case) -> usize {
+    if c.wide {
+        return 4 * c.shape.nodes;
+    }
+    2 * c.shape.nodes
 }
 
 // What an accepted rebuilding leaves.
 fn compare_accepted(c: Case, picture: &[u8], work: &[i32]) -> Option<Finding> {
     let nodes = c.shape.nodes;
-    let value = first_other(work, 0..nodes, |i| signed32_at(c.bytes, 4 * i));
-    let pixel = first_difference(rest(c.bytes, 4 * nodes), picture);
+    let value = first_other(work, 0..nodes, |i| value_at(c, i));
+    let pixel = first_difference(rest(c.bytes, picture_start(c)), picture);
     let kept = first_changed(work, nodes, work_filler);
     Finding::compared(Part::Value, value)
         .or(Finding::compared(Part::Pixel, pixel))
