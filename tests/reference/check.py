@@ -8,6 +8,8 @@ import sys
 
 import check_bale
 import check_calls
+import check_closed_loop
+import check_generations
 import check_pgm
 import check_pieces
 import check_pyramid
@@ -17,7 +19,8 @@ from tally import Tally
 def main() -> int:
     """Run all checks and give the exit status."""
     tally = Tally()
-    for part in (check_pieces, check_pyramid, check_calls, check_bale, check_pgm):
+    for part in (check_pieces, check_pyramid, check_closed_loop, check_calls, check_generations, check_bale,
+                 check_pgm):
         part.run(tally)
     print(f"{tally.passed} passed, {tally.failed} failed")
     return 1 if tally.failed else 0

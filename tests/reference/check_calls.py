@@ -1,15 +1,15 @@
-"""Refusals of the calls and their order, and chains of generations."""
+"""Refusals of the calls and their order."""
 
 from dataclasses import dataclass, replace
 from itertools import combinations
 
 from bale import NOT_FITTED, Note, Reading, file_size, read_bale, write_bale
 from faulty_shapes import SHAPES, first_of
-from pictures import PICTURE_KINDS, picture_of
+from manners import MANNERS
 from piece_a import NOTE_A
-from pyramid import code, rebuild
-from seeded import BIN_FAMILIES, SEED, Seeded, bins_of, fill_slots
-from settings import BIN_SLOTS, KERNELS, Settings, bounds, deepest_depth, settings_refusal, total_nodes
+from pyramid import rebuild
+from seeded import fill_slots
+from settings import BIN_SLOTS, KERNELS, Settings, deepest_depth, settings_refusal, total_nodes
 from tally import Tally
 
 BASE = Settings(9, 5, 2, 4, fill_slots([3, 2, 1]))
@@ -49,7 +49,8 @@ def check_settings(tally: Tally) -> None:
     """Settings with a fault or two, at both ends of each range; the deepest depth knows 1 alone."""
     for settings, answer in faulty_settings():
         tally.equal(f"settings {settings}", settings_refusal(settings), answer)
-        tally.equal(f"bound of {settings}", bounds(settings)[0], answer)
+        for manner in MANNERS:
+            tally.equal(f"{manner.name} bound of {settings}", manner.bounds(settings)[0], answer)
         deepest = deepest_depth(settings.columns, settings.rows)[0]
         tally.equal(f"deepest depth for {settings}", deepest, 1 if answer == 1 else 0)
 
@@ -118,14 +119,16 @@ def subsets(numbers: tuple[int, ...]) -> list[tuple[int, ...]]:
 
 
 def check_coding_call(tally: Tally, call: Call, faults: tuple[int, ...]) -> None:
-    """Coding, rebuilding, the bound and the deepest depth of a call with these faults."""
+    """Coding and the bound in either manner, rebuilding and the deepest depth of a call with these faults."""
     name = f"{call.settings} with faults {faults}"
     settings = call.settings
-    coded = code(settings, bytes(call.picture_length), len(call.indices), call.work_length)
-    tally.equal(f"coding of {name}", coded.refusal, first_of(set(faults) - {11}))
+    for manner in MANNERS:
+        coded = manner.code(settings, bytes(call.picture_length), len(call.indices), call.work_length)
+        tally.equal(f"{manner.name} coding of {name}", coded.refusal, first_of(set(faults) - {11}))
+        answer = manner.bounds(settings)[0]
+        tally.equal(f"{manner.name} bound of {name}", answer, first_of(set(faults) & {1, 13, 14, 15, 2, 3}))
     rebuilt = rebuild(settings, call.indices, call.picture_length, call.work_length)
     tally.equal(f"rebuilding of {name}", rebuilt.refusal, first_of(faults))
-    tally.equal(f"bound of {name}", bounds(settings)[0], first_of(set(faults) & {1, 13, 14, 15, 2, 3}))
     deepest = deepest_depth(settings.columns, settings.rows)
     tally.equal(f"deepest depth of {name}", deepest[0], first_of(set(faults) & {1}))
 
@@ -152,73 +155,16 @@ def check_lengths(tally: Tally) -> None:
     """Lengths around the right ones."""
     for change in (-1, 0, 1):
         wrong = change != 0
-        tally.equal(f"picture {change}", code(BASE, bytes(45 + change), NODES, NODES).refusal, 5 * wrong)
-        tally.equal(f"levels {change}", code(BASE, bytes(45), NODES + change, NODES).refusal, 6 * wrong)
-        tally.equal(f"work {change}", code(BASE, bytes(45), NODES, NODES + change).refusal, 7 * (change < 0))
+        for name, code in ((manner.name, manner.code) for manner in MANNERS):
+            tally.equal(f"{name}, picture {change}", code(BASE, bytes(45 + change), NODES, NODES).refusal, 5 * wrong)
+            tally.equal(f"{name}, levels {change}", code(BASE, bytes(45), NODES + change, NODES).refusal, 6 * wrong)
+            answer = code(BASE, bytes(45), NODES, NODES + change).refusal
+            tally.equal(f"{name}, work {change}", answer, 7 * (change < 0))
         data = write_bale(BASE, NOTE_A, [0] * NODES, file_size(BASE) + 1)[1]
         tally.equal(f"reader's levels {change}", read_bale(data, NODES + change).refusal, 6 * wrong)
 
 
-# Generations.
-
-def generation(settings: Settings, picture: bytes, lengths: tuple[int, int, int]) -> tuple[bool, bytes]:
-    """Say whether a generation is accepted, and give the picture that it leaves.
-
-    The lengths are those of the rebuilding's picture buffer, of the level buffer and of the work buffer.
-    """
-    picture_length, level_length, work_length = lengths
-    coded = code(settings, picture, level_length, work_length)
-    if coded.refusal != 0:
-        return False, picture
-    rebuilt = rebuild(settings, coded.indices, picture_length, work_length)
-    return (True, rebuilt.picture) if rebuilt.refusal == 0 else (False, picture)
-
-
-def draw_generation(numbers: Seeded, sizes: list[tuple[int, int]]) -> tuple[Settings, tuple[int, int, int]]:
-    """Settings of one of the sizes and buffer lengths; some of them are made unlawful."""
-    columns, rows = numbers.choice(sizes)
-    depth = numbers.between(0, deepest_depth(columns, rows)[1])
-    settings = Settings(columns, rows, depth, numbers.choice(KERNELS),
-                        bins_of(numbers.choice(BIN_FAMILIES), depth, numbers))
-    nodes = total_nodes(columns, rows, depth)
-    lengths = (columns * rows, nodes, nodes + numbers.between(0, 2))
-    fault = numbers.between(0, 11)
-    if fault == 0:
-        settings = replace(settings, kernel=2)
-    if fault == 1:
-        lengths = (lengths[0] + 1, lengths[1], lengths[2])
-    if fault == 2:
-        lengths = (lengths[0], lengths[1] - 1, lengths[2])
-    return settings, lengths
-
-
-def check_chain(tally: Tally, name: str, numbers: Seeded, sizes: list[tuple[int, int]]) -> None:
-    """A chain of up to 6 generations stays within the sum of the level 0 bounds of its accepted ones."""
-    first = picture_of(numbers.choice(PICTURE_KINDS), *sizes[0], numbers)
-    at_hand = first
-    total = 0
-    for step in range(numbers.between(0, 6)):
-        settings, lengths = draw_generation(numbers, sizes)
-        accepted, left = generation(settings, at_hand, lengths)
-        if accepted:
-            total += bounds(settings)[1][0]
-        else:
-            tally.true(f"{name}, step {step}: a refused generation leaves the picture it got", left == at_hand)
-        at_hand = left
-    within = all(abs(a - b) <= total for a, b in zip(first, at_hand, strict=True))
-    tally.true(f"{name}: within the sum of bounds {total}", within)
-
-
-def check_chains(tally: Tally) -> None:
-    """Chains whose sizes differ but keep the number of pixels."""
-    numbers = Seeded(SEED + 4)
-    groups = [[(9, 5), (5, 9), (3, 15), (15, 3)], [(17, 17)], [(13, 5), (5, 13)], [(2, 2)],
-              [(33, 9), (9, 33), (27, 11)]]
-    for turn in range(150):
-        check_chain(tally, f"chain {turn}", numbers, groups[turn % len(groups)])
-
-
 def run(tally: Tally) -> None:
-    """All checks of calls and generations."""
-    for check in (check_settings, check_orders, check_lengths, check_chains):
+    """All checks of calls."""
+    for check in (check_settings, check_orders, check_lengths):
         check(tally)

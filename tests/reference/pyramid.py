@@ -26,7 +26,7 @@ VALUE_LIMIT = 4096
 
 @dataclass(frozen=True)
 class Coded:
-    """Answer of a coding: the refusal number, and if it is 0 the indices and the averages g in flat order."""
+    """Answer of an open-loop coding: the refusal number, and if it is 0 indices and averages g in flat order."""
 
     refusal: int
     indices: list[int] = field(default_factory=list)
@@ -165,15 +165,19 @@ def bin_index(value: int, bin_size: int) -> int:
     return found[0]
 
 
+def level_indices(level: Level, bin_size: int) -> Level:
+    """The index of each value of a level."""
+    return [[bin_index(value, bin_size) for value in row] for row in level]
+
+
 def code(settings: Settings, picture: bytes, level_length: int, work_length: int) -> Coded:
-    """Code a picture, with a level buffer and a work buffer of the given lengths."""
+    """Code a picture open-loop, with a level buffer and a work buffer of the given lengths."""
     refusal = call_refusal(settings, len(picture), level_length, work_length)
     if refusal != ACCEPTED:
         return Coded(refusal)
     averages = gaussian_pyramid(split_rows(picture, settings.columns), settings.depth, settings.kernel)
     differences = laplacian_pyramid(averages, settings.kernel)
-    indices = [[[bin_index(value, size) for value in row] for row in level]
-               for level, size in zip(differences, settings.bins)]
+    indices = [level_indices(level, size) for level, size in zip(differences, settings.bins)]
     return Coded(ACCEPTED, flatten(indices), flatten(averages))
 
 
@@ -192,10 +196,14 @@ def indices_refusal(indices: list[int], settings: Settings) -> int:
     return ACCEPTED if lawful else BAD_INDEX
 
 
+def level_values(indices: Level, bin_size: int) -> Level:
+    """The value m x n of each index of a level."""
+    return [[index * bin_size for index in row] for row in indices]
+
+
 def index_values(indices: list[int], settings: Settings) -> list[Level]:
     """The value m x n of each index, for levels 0 to N."""
-    levels = split_levels(indices, settings)
-    return [[[index * size for index in row] for row in level] for level, size in zip(levels, settings.bins)]
+    return [level_values(level, size) for level, size in zip(split_levels(indices, settings), settings.bins)]
 
 
 def rebuild_levels(values: list[Level], kernel: int) -> list[Level]:

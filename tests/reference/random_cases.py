@@ -4,6 +4,7 @@ import struct
 from collections.abc import Callable, Iterator
 from dataclasses import replace
 
+import vectors_closed
 import vectors_files
 import vectors_levels
 import vectors_pgm
@@ -14,7 +15,7 @@ from pictures import PICTURE_KINDS, largest_index, patterned_indices, picture_of
 from pyramid import code, rebuild
 from random_files import damage, random_file, random_reading
 from random_pgm import any_pgm
-from seeded import Seeded, random_settings
+from seeded import CLOSED_BIN_FAMILIES, Seeded, random_settings
 from settings import Settings, bounds, deepest_depth, settings_refusal, shape_refusal, total_nodes
 
 # Largest sides of small and of large cases.
@@ -57,6 +58,13 @@ def files_case(numbers: Seeded, side: int) -> bytes:
 def pgm_case(numbers: Seeded, side: int) -> bytes:
     """A PGM file, lawful in one of three."""
     return vectors_pgm.case_bytes(any_pgm(numbers, side))
+
+
+def closed_case(numbers: Seeded, side: int) -> bytes:
+    """A closed-loop coding."""
+    settings = random_settings(numbers, side, CLOSED_BIN_FAMILIES)
+    picture = picture_of(numbers.choice(PICTURE_KINDS), settings.columns, settings.rows, numbers)
+    return vectors_closed.case_bytes(settings, picture)
 
 
 # Calls: whether they are accepted, of settings and lengths that may be unlawful.
@@ -132,7 +140,7 @@ def calls_case(numbers: Seeded, side: int) -> bytes:
 
 CASES: dict[str, Callable[[Seeded, int], bytes]] = {
     "pyramid": pyramid_case, "levels": levels_case, "files": files_case, "calls": calls_case,
-    "pgm": pgm_case,
+    "pgm": pgm_case, "closed": closed_case,
 }
 
 

@@ -45,12 +45,17 @@ def fill_slots(levels: Sequence[int]) -> tuple[int, ...]:
     return tuple(levels) + (0,) * (BIN_SLOTS - len(levels))
 
 
-# Names of the families of bins that bins_of knows.
+# Names of the families of bins that bins_of knows. Kept vectors draw from the first six: these must not change.
 BIN_FAMILIES = ("one", "two", "odd", "largest", "mixed", "small")
+CLOSED_BIN_FAMILIES = BIN_FAMILIES + ("large top", "large below")
 
 
 def bins_of(family: str, depth: int, numbers: Seeded) -> tuple[int, ...]:
     """The seven slots for a depth, by family."""
+    if family == "large top":
+        return fill_slots([1] * depth + [LARGEST_BIN])
+    if family == "large below":
+        return fill_slots([LARGEST_BIN] * depth + [1])
     draw = {
         "one": lambda: 1,
         "two": lambda: 2,
@@ -70,9 +75,9 @@ def random_size(numbers: Seeded, largest: int) -> tuple[int, int]:
     return numbers.choice(sides), numbers.choice(sides)
 
 
-def random_settings(numbers: Seeded, largest: int) -> Settings:
-    """Lawful settings with sides up to the largest side."""
+def random_settings(numbers: Seeded, largest: int, families: Sequence[str] = BIN_FAMILIES) -> Settings:
+    """Lawful settings with sides up to the largest side, and bins of one of the families."""
     columns, rows = random_size(numbers, largest)
     depth = numbers.between(0, deepest_depth(columns, rows)[1])
-    bins = bins_of(numbers.choice(BIN_FAMILIES), depth, numbers)
+    bins = bins_of(numbers.choice(families), depth, numbers)
     return Settings(columns, rows, depth, numbers.choice(KERNELS), bins)

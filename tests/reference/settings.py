@@ -1,4 +1,7 @@
-"""Settings of the pyramid, their refusals, level sizes, the deepest depth and the bound (documents 01, and 02 P1)."""
+"""Settings of the pyramid, their refusals, level sizes, the deepest depth and the bounds.
+
+Documents 01, and 02 P1 and P4.
+"""
 
 from dataclasses import dataclass
 from fractions import Fraction
@@ -119,7 +122,7 @@ def deepest_depth(columns: int, rows: int) -> tuple[int, int]:
 
 
 def bounds(settings: Settings) -> tuple[int, list[int]]:
-    """Refusal (the settings' first, or 0) and the bounds of levels 0 to N (none if refused).
+    """Refusal (the settings' first, or 0) and the bounds of levels 0 to N in open-loop coding (none if refused).
 
     At the top the bound is bin // 2. Below it is the multiplier times the bound of the level above, rounded up to a
     whole number, plus bin // 2.
@@ -132,3 +135,14 @@ def bounds(settings: Settings) -> tuple[int, list[int]]:
     for level in range(settings.depth - 1, -1, -1):
         result.insert(0, ceil(multiplier * result[0]) + settings.bins[level] // 2)
     return ACCEPTED, result
+
+
+def closed_bounds(settings: Settings) -> tuple[int, list[int]]:
+    """Refusal (the settings' first, or 0) and the bounds of levels 0 to N in closed-loop coding (none if refused).
+
+    Document 02, P4: at every level the bound is bin // 2.
+    """
+    refusal = settings_refusal(settings)
+    if refusal != ACCEPTED:
+        return refusal, []
+    return ACCEPTED, [size // 2 for size in settings.bins[:settings.depth + 1]]

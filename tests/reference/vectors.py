@@ -1,20 +1,22 @@
 """Writes test vectors; README.md gives the formats.
 
-vectors.py pyramid|levels|files|pgm FILE: those that are kept in the repository, or
-vectors.py random pyramid|levels|files|calls|pgm SEED SMALL LARGE: random cases on standard output, small and large.
+vectors.py pyramid|levels|files|pgm|closed FILE: those that are kept in the repository, or
+vectors.py random pyramid|levels|files|calls|pgm|closed SEED SMALL LARGE: random cases on standard output, small and
+large.
 """
 
 import sys
 from pathlib import Path
 
 import random_cases
+import vectors_closed
 import vectors_files
 import vectors_levels
 import vectors_pgm
 import vectors_pyramid
 
 KINDS = {"pyramid": vectors_pyramid.cases, "levels": vectors_levels.cases, "files": vectors_files.cases,
-         "pgm": vectors_pgm.cases}
+         "pgm": vectors_pgm.cases, "closed": vectors_closed.cases}
 
 
 def write_kept(kind: str, path: str) -> None:
