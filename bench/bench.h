@@ -88,27 +88,43 @@ static long times_in_round(struct job *it, call *work)
     return times;
 }
 
+/* A call of one of the two implementations. */
+struct timed {
+    call *work;
+    int which;
+};
+
+/* The best times of two of them, a round of each in turn. */
+static void best_times(struct job *it, const struct timed timed[2], double best[2])
+{
+    long times[2];
+    for (int at = 0; at < 2; at++) {
+        it->which = timed[at].which;
+        times[at] = times_in_round(it, timed[at].work);
+        best[at] = 1e9;
+    }
+    for (int round = 0; round < ROUNDS; round++)
+        for (int at = 0; at < 2; at++) {
+            it->which = timed[at].which;
+            double each = seconds_of(it, timed[at].work, times[at]) / (double)times[at];
+            if (each < best[at])
+                best[at] = each;
+        }
+}
+
 /* What is counted is a node, and of a PGM file a pixel. */
 static void print_heading(const char *counted)
 {
-    printf("| %-10s | %10s | %5ss | %10s | %10s | %5s | library ns/%s | plain C ns/%s |\n", "call", "size", counted,
+    printf("| %-18s | %10s | %5ss | %10s | %10s | %5s | library ns/%s | plain C ns/%s |\n", "call", "size", counted,
            "library us", "plain C us", "ratio", counted, counted);
     puts("|---|---|---|---|---|---|---|---|");
 }
 
 static void compare_times(const char *name, struct job *it, call *work)
 {
-    long times[2];
-    double best[2] = {1e9, 1e9};
-    for (it->which = 0; it->which < 2; it->which++)
-        times[it->which] = times_in_round(it, work);
-    for (int round = 0; round < ROUNDS; round++)
-        for (it->which = 0; it->which < 2; it->which++) {
-            double each = seconds_of(it, work, times[it->which]) / (double)times[it->which];
-            if (each < best[it->which])
-                best[it->which] = each;
-        }
-    printf("| %-10s | %3u by %3u | %6u | %10.3f | %10.3f | %5.2f | %15.3f | %15.3f |\n", name, it->side, it->side,
+    double best[2];
+    best_times(it, (const struct timed[2]){{work, 0}, {work, 1}}, best);
+    printf("| %-18s | %3u by %3u | %6u | %10.3f | %10.3f | %5.2f | %15.3f | %15.3f |\n", name, it->side, it->side,
            it->nodes, best[0] * 1e6, best[1] * 1e6, best[0] / best[1], best[0] * 1e9 / it->nodes,
            best[1] * 1e9 / it->nodes);
 }

@@ -124,6 +124,34 @@ static void index_level(const int32_t *average, int columns, int rows, int k, in
     }
 }
 
+/* The same, and what a reader will rebuild of the row, in place of the averages. The value of an index has 16 bits. */
+static void index_and_rebuild_row(int32_t *restrict values, const int32_t *restrict predicted, int length,
+                                  int16_t bin, int16_t *restrict indices)
+{
+    struct divisor by = divisor_of((uint32_t)bin);
+    int lift = MOST_VALUE / bin + 1, added = (bin - 1) / 2 + lift * bin;
+    for (int at = 0; at < length; at++) {
+        uint32_t lifted = (uint32_t)(values[at] - predicted[at] + added);
+        indices[at] = (int16_t)((int32_t)((lifted * by.factor) >> by.shift) - lift);
+        values[at] = predicted[at] + (int16_t)(indices[at] * bin);
+    }
+}
+
+/* `above` holds the level above as it will be rebuilt. */
+static void index_and_rebuild_level(int32_t *values, int columns, int rows, int k, int bin, const int32_t *above,
+                                    int16_t *indices)
+{
+    sums passed;
+    int32_t predicted[MOST_SIDE] = {0};
+    if (above)
+        expand_rows(above, columns, rows, k, passed);
+    for (int row = 0; row < rows; row++, values += columns, indices += columns) {
+        if (above)
+            expand_down(passed, columns, rows, row, k, predicted);
+        index_and_rebuild_row(values, predicted, columns, (int16_t)bin, indices);
+    }
+}
+
 static uint16_t lengths_refusal(uint16_t columns, uint16_t rows, uint16_t depth, size_t picture_length,
                                 size_t levels_length, size_t work_length)
 {
@@ -154,6 +182,41 @@ static uint16_t coding(uint16_t columns, uint16_t rows, uint16_t depth, uint16_t
             reduce(work + at, width, height, kernel, work + up);
         index_level(work + at, width, height, kernel, bins[level], level < depth ? work + up : NULL, levels + at);
         at = up;
+    }
+    return 0;
+}
+
+/* The averages of all levels, the picture's last. */
+static void average_levels(uint16_t columns, uint16_t rows, uint16_t depth, int k, const uint8_t *picture,
+                           int32_t *work)
+{
+    size_t pixels = fast_level_nodes(columns, rows, 0), at = fast_nodes(columns, rows, depth) - pixels;
+    for (size_t pixel = 0; pixel < pixels; pixel++)
+        work[at + pixel] = picture[pixel];
+    for (unsigned level = 0; level < depth; level++) {
+        size_t up = at - fast_level_nodes(columns, rows, level + 1);
+        reduce(work + at, ((columns - 1) >> level) + 1, ((rows - 1) >> level) + 1, k, work + up);
+        at = up;
+    }
+}
+
+static uint16_t closed_loop_coding(uint16_t columns, uint16_t rows, uint16_t depth, uint16_t kernel,
+                                   const uint16_t bins[7], const uint8_t *picture, size_t picture_length,
+                                   int16_t *levels, size_t levels_length, int32_t *work, size_t work_length)
+{
+    uint16_t refusal = fast_settings_refusal(columns, rows, depth, kernel, bins);
+    if (!refusal)
+        refusal = lengths_refusal(columns, rows, depth, picture_length, levels_length, work_length);
+    if (refusal)
+        return refusal;
+    average_levels(columns, rows, depth, kernel, picture, work);
+    size_t at = 0;
+    const int32_t *above = NULL;
+    for (unsigned level = depth + 1u; level-- > 0;) {
+        int width = ((columns - 1) >> level) + 1, height = ((rows - 1) >> level) + 1;
+        index_and_rebuild_level(work + at, width, height, kernel, bins[level], above, levels + at);
+        above = work + at;
+        at += (size_t)width * (size_t)height;
     }
     return 0;
 }
@@ -203,4 +266,4 @@ static uint16_t rebuilding(uint16_t columns, uint16_t rows, uint16_t depth, uint
 }
 
 /* The other calls are not timed. */
-const struct pyramid_calls fast_pyramid = {coding, rebuilding, NULL, NULL, NULL};
+const struct pyramid_calls fast_pyramid = {coding, closed_loop_coding, rebuilding, NULL, NULL, NULL, NULL};

@@ -66,6 +66,14 @@ uint16_t lepsarvu_coding(uint16_t columns, uint16_t rows, uint16_t depth, uint16
                          const uint8_t *picture, size_t picture_length, int16_t *levels, size_t levels_length,
                          int32_t *work, size_t work_length);
 
+/* The same closed-loop: the top is coded as above, and each lower level is predicted from the rebuilt values of the
+ * level above, which its reader will have, and not from the averages. The file and the rebuilding are the same for
+ * both. Leaves in the first places of work, instead of the averages, the unclamped rebuilt values of all levels, which
+ * are those that lepsarvu_rebuilding leaves there. Refused: 1, 13, 14, 15, 2, 3, 5, 6, 7. */
+uint16_t lepsarvu_closed_loop_coding(uint16_t columns, uint16_t rows, uint16_t depth, uint16_t kernel,
+                                     const uint16_t bins[7], const uint8_t *picture, size_t picture_length,
+                                     int16_t *levels, size_t levels_length, int32_t *work, size_t work_length);
+
 /* Rebuilds a picture from the indices of all levels. Leaves the picture, clamped to 0 to 255, in picture, and the
  * unclamped values of all levels in the first places of work; places of work after them keep their contents.
  * Refused: 1, 13, 14, 15, 2, 3, 5, 6, 7, 11. */
@@ -74,10 +82,16 @@ uint16_t lepsarvu_rebuilding(uint16_t columns, uint16_t rows, uint16_t depth, ui
                              int32_t *work, size_t work_length);
 
 /* Leaves in bounds, slot l for level l, how far a rebuilt value of a level can lie from its average; 0 in the slots
- * above the depth. Slot 0 is how many grey levels a shown pixel can differ from the picture that was coded.
+ * above the depth. Slot 0 is how many grey levels a shown pixel can differ from the picture that was coded. They hold
+ * of a file whichever coding made it: those of closed-loop coding, below, are never above them.
  * Refused: 1, 13, 14, 15, 2, 3. */
 uint16_t lepsarvu_level_bounds(uint16_t columns, uint16_t rows, uint16_t depth, uint16_t kernel,
                                const uint16_t bins[7], uint16_t bounds[7]);
+
+/* The same where the picture was coded by lepsarvu_closed_loop_coding: half the level's own bin, rounded down. A file
+ * does not tell which coding made it. Refused: 1, 13, 14, 15, 2, 3. */
+uint16_t lepsarvu_closed_loop_bounds(uint16_t columns, uint16_t rows, uint16_t depth, uint16_t kernel,
+                                     const uint16_t bins[7], uint16_t bounds[7]);
 
 /* Leaves in depth the deepest depth that a size allows. Refused: 1. */
 uint16_t lepsarvu_deepest_depth(uint16_t columns, uint16_t rows, uint16_t *depth);

@@ -1,5 +1,6 @@
 /* Codes a picture, writes its bale file to memory, reads the file back, rebuilds the picture, and prints the bound and
- * the largest difference found. examples/README.md has the commands that build and run it. */
+ * the largest difference found; then the last two of the same picture coded closed-loop. examples/README.md has the
+ * commands that build and run it. */
 #include <stdio.h>
 #include <stdlib.h>
 
@@ -28,6 +29,7 @@ static void make_picture(void)
     }
 }
 
+/* Of the picture and what is shown of it. */
 static int largest_difference(void)
 {
     int largest = 0;
@@ -35,6 +37,19 @@ static int largest_difference(void)
         if (abs(picture[at] - shown[at]) > largest)
             largest = abs(picture[at] - shown[at]);
     return largest;
+}
+
+/* The calls for the bounds and the coding are others; a file is as long, and is written, read and rebuilt alike. */
+static int code_closed_loop(const uint16_t bins[7], uint16_t nodes)
+{
+    uint16_t bounds[7];
+    must("bounds", lepsarvu_closed_loop_bounds(COLUMNS, ROWS, DEPTH, KERNEL, bins, bounds));
+    must("coding", lepsarvu_closed_loop_coding(COLUMNS, ROWS, DEPTH, KERNEL, bins, picture, PIXELS, levels, nodes, work,
+                                               nodes));
+    must("rebuilding", lepsarvu_rebuilding(COLUMNS, ROWS, DEPTH, KERNEL, bins, levels, nodes, shown, PIXELS, work,
+                                           nodes));
+    printf("closed-loop: bound %u, largest difference %d\n", bounds[0], largest_difference());
+    return largest_difference() > bounds[0];
 }
 
 int main(void)
@@ -56,5 +71,5 @@ int main(void)
                                            PIXELS, work, nodes));
     printf("picture %u by %u in a file of %zu bytes\n", shape[0], shape[1], size);
     printf("bound %u, largest difference %d\n", bounds[0], largest_difference());
-    return largest_difference() > bounds[0];
+    return largest_difference() > bounds[0] || code_closed_loop(bins, nodes);
 }

@@ -8,12 +8,20 @@ mod c {
             picture: *const u8, picture_length: usize, levels: *mut i16, levels_length: usize,
             work: *mut i32, work_length: usize,
         ) -> u16;
+        pub fn lepsarvu_closed_loop_coding(
+            columns: u16, rows: u16, depth: u16, kernel: u16, bins: *const u16,
+            picture: *const u8, picture_length: usize, levels: *mut i16, levels_length: usize,
+            work: *mut i32, work_length: usize,
+        ) -> u16;
         pub fn lepsarvu_rebuilding(
             columns: u16, rows: u16, depth: u16, kernel: u16, bins: *const u16,
             levels: *const i16, levels_length: usize, picture: *mut u8, picture_length: usize,
             work: *mut i32, work_length: usize,
         ) -> u16;
         pub fn lepsarvu_level_bounds(
+            columns: u16, rows: u16, depth: u16, kernel: u16, bins: *const u16, bounds: *mut u16,
+        ) -> u16;
+        pub fn lepsarvu_closed_loop_bounds(
             columns: u16, rows: u16, depth: u16, kernel: u16, bins: *const u16, bounds: *mut u16,
         ) -> u16;
         pub fn lepsarvu_deepest_depth(columns: u16, rows: u16, depth: *mut u16) -> u16;
@@ -94,6 +102,17 @@ pub fn coding(s: &Settings, picture: &[u8], levels: &mut [i16], work: &mut [i32]
     answer(number, ())
 }
 
+/// Leaves indices in `levels` and, instead of averages, the unclamped values that a rebuilding leaves in `work`.
+pub fn closed_loop_coding(s: &Settings, picture: &[u8], levels: &mut [i16], work: &mut [i32]) -> Answer<()> {
+    let number = unsafe {
+        c::lepsarvu_closed_loop_coding(
+            s.columns, s.rows, s.depth, s.kernel, s.bins.as_ptr(), picture.as_ptr(), picture.len(),
+            levels.as_mut_ptr(), levels.len(), work.as_mut_ptr(), work.len(),
+        )
+    };
+    answer(number, ())
+}
+
 /// Leaves the picture in `picture` and the unclamped values in `work`.
 pub fn rebuilding(s: &Settings, levels: &[i16], picture: &mut [u8], work: &mut [i32]) -> Answer<()> {
     let number = unsafe {
@@ -105,11 +124,20 @@ pub fn rebuilding(s: &Settings, levels: &[i16], picture: &mut [u8], work: &mut [
     answer(number, ())
 }
 
-/// How far a rebuilt value of each level can lie from its average.
+/// How far a rebuilt value of each level can lie from its average, whichever coding the file is of.
 pub fn level_bounds(s: &Settings) -> Answer<[u16; 7]> {
     let mut bounds = [0; 7];
     let number = unsafe {
         c::lepsarvu_level_bounds(s.columns, s.rows, s.depth, s.kernel, s.bins.as_ptr(), bounds.as_mut_ptr())
+    };
+    answer(number, bounds)
+}
+
+/// The same of pictures that were coded closed-loop.
+pub fn closed_loop_bounds(s: &Settings) -> Answer<[u16; 7]> {
+    let mut bounds = [0; 7];
+    let number = unsafe {
+        c::lepsarvu_closed_loop_bounds(s.columns, s.rows, s.depth, s.kernel, s.bins.as_ptr(), bounds.as_mut_ptr())
     };
     answer(number, bounds)
 }

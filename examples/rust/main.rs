@@ -1,5 +1,6 @@
 //! Codes a picture, writes its bale file to memory, reads the file back, rebuilds the picture, and prints the bound and
-//! the largest difference found. examples/README.md has the commands that build and run it.
+//! the largest difference found; then the last two of the same picture coded closed-loop. examples/README.md has the
+//! commands that build and run it.
 
 #[allow(dead_code)]
 mod lepsarvu;
@@ -35,16 +36,31 @@ fn picture_of(file: &[u8]) -> Answer<Vec<u8>> {
     Ok(picture)
 }
 
+fn largest_difference(picture: &[u8], shown: &[u8]) -> u16 {
+    picture.iter().zip(shown).map(|(a, b)| a.abs_diff(*b)).max().unwrap_or(0).into()
+}
+
+/// The calls for the bounds and the coding are others; a file is as long, and is written, read and rebuilt alike.
+fn code_closed_loop(s: &Settings, picture: &[u8]) -> Answer<bool> {
+    let bound = lepsarvu::closed_loop_bounds(s)?[0];
+    let nodes = lepsarvu::total_nodes(s)?;
+    let (mut levels, mut work, mut shown) = (vec![0; nodes], vec![0; nodes], vec![0; picture.len()]);
+    lepsarvu::closed_loop_coding(s, picture, &mut levels, &mut work)?;
+    lepsarvu::rebuilding(s, &levels, &mut shown, &mut work)?;
+    let largest = largest_difference(picture, &shown);
+    println!("closed-loop: bound {bound}, largest difference {largest}");
+    Ok(largest <= bound)
+}
+
 fn run() -> Answer<bool> {
     let s = Settings { columns: 97, rows: 65, depth: 5, kernel: 4, bins: [12, 8, 6, 4, 3, 2, 0] };
     let picture = make_picture(&s);
     let file = file_of(&s, &picture)?;
-    let shown = picture_of(&file)?;
+    let largest = largest_difference(&picture, &picture_of(&file)?);
     let bound = lepsarvu::level_bounds(&s)?[0];
-    let largest = picture.iter().zip(&shown).map(|(a, b)| a.abs_diff(*b)).max().unwrap_or(0);
     println!("picture {} by {} in a file of {} bytes", s.columns, s.rows, file.len());
     println!("bound {bound}, largest difference {largest}");
-    Ok(u16::from(largest) <= bound)
+    Ok(largest <= bound && code_closed_loop(&s, &picture)?)
 }
 
 fn main() {

@@ -1,6 +1,7 @@
 //! Codes a PGM picture into a bale file, and shows what the file holds as a PGM picture: pgm IN.pgm OUT.bale BACK.pgm
 //! The depth is the deepest that the size allows. examples/README.md has the commands that build and run it.
 
+#[allow(dead_code)]
 mod lepsarvu;
 
 use lepsarvu::{Answer, Note, Reading, Refused, Settings};

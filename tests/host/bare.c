@@ -1,10 +1,10 @@
 /* A program with no C library and no start-up but its own: the archive needs memset and memmove. It codes piece A
- * of document 01, writes its file, reads it back and rebuilds the picture, and writes piece A as a PGM file and reads
- * that back, with guard bytes around all that it lends; the exit status is the step that failed, or 64 more where that
- * step changed a guard or what it only reads. */
+ * of document 01, writes its file, reads it back and rebuilds the picture, codes it closed-loop and rebuilds that, and
+ * writes piece A as a PGM file and reads that back, with guard bytes around all that it lends; the exit status is the
+ * step that failed, or 64 more where that step changed a guard or what it only reads. */
 #include "../../include/lepsarvu.h"
 
-enum { NODES = 13, PIXELS = 9, FILE_BYTES = 58, PGM_BYTES = 20, GUARD = 32, ROOM = 64, GUARD_BYTE = 0xA5, STEPS = 14,
+enum { NODES = 13, PIXELS = 9, FILE_BYTES = 58, PGM_BYTES = 20, GUARD = 32, ROOM = 64, GUARD_BYTE = 0xA5, STEPS = 17,
        CHANGED = 64 };
 enum thing { BINS, PICTURE, SHOWN, LEVELS, READ, WORK, FILE_PART, NUMBER, SIZE, BOUNDS, SHAPE, READ_BINS, KINDS,
              NUMBERS, PGM, COLUMNS, ROWS, THINGS };
@@ -120,6 +120,26 @@ static int late_step(int which)
     }
 }
 
+/* The same of the steps of closed-loop coding: piece A's centre is off by 4, as all of it is. */
+static int closed_step(int which)
+{
+    const int16_t *levels = at(LEVELS);
+    const int32_t *work = at(WORK);
+    const uint16_t *bounds = at(BOUNDS);
+    const uint8_t *shown = at(SHOWN);
+    switch (which) {
+    case 11:
+        return lepsarvu_closed_loop_bounds(3, 3, 1, 4, at(BINS), at(BOUNDS)) == 0 && bounds[0] == 5 && bounds[1] == 2;
+    case 12:
+        return lepsarvu_closed_loop_coding(3, 3, 1, 4, at(BINS), at(PICTURE), PIXELS, at(LEVELS), NODES, at(WORK),
+                                           NODES) == 0 &&
+               levels[8] == 8 && work[8] == 104;
+    default:
+        return lepsarvu_rebuilding(3, 3, 1, 4, at(BINS), at(LEVELS), NODES, at(SHOWN), PIXELS, at(WORK), NODES) == 0 &&
+               shown[4] == 104 && shown[0] == 4;
+    }
+}
+
 /* Whether the PGM file of piece A is "P5\n3 3\n255\n" and its pixels. */
 static int is_piece(const uint8_t *file)
 {
@@ -135,12 +155,12 @@ static int pgm_step(int which)
 {
     const uint8_t *shown = at(SHOWN);
     switch (which) {
-    case 11:
+    case 14:
         return lepsarvu_pgm_size(3, 3, at(SIZE)) == 0 && number_at(SIZE) == PGM_BYTES;
-    case 12:
+    case 15:
         return lepsarvu_write_pgm(3, 3, at(PICTURE), PIXELS, at(PGM), PGM_BYTES, at(SIZE)) == 0 &&
                number_at(SIZE) == PGM_BYTES && is_piece(at(PGM));
-    case 13:
+    case 16:
         return lepsarvu_check_pgm(at(PGM), PGM_BYTES, at(COLUMNS), at(ROWS)) == 0 && number_at(COLUMNS) == 3;
     default:
         return lepsarvu_read_pgm(at(PGM), PGM_BYTES, at(SHOWN), PIXELS, at(COLUMNS), at(ROWS)) == 0 &&
@@ -148,11 +168,20 @@ static int pgm_step(int which)
     }
 }
 
+static int any_step(int which)
+{
+    if (which <= 5)
+        return step(which);
+    if (which <= 10)
+        return late_step(which);
+    return which <= 13 ? closed_step(which) : pgm_step(which);
+}
+
 static int steps(void)
 {
     lend();
     for (int which = 1; which <= STEPS; which++) {
-        if (!(which <= 5 ? step(which) : which <= 10 ? late_step(which) : pgm_step(which)))
+        if (!any_step(which))
             return which;
         if (!kept())
             return CHANGED + which;

@@ -17,6 +17,12 @@ const INDICES: [i16; NODES] = [6, 6, 6, 6, -3, -3, -3, -3, 7, -3, -3, -3, -3];
 const AVERAGES: [i32; NODES] = [25, 25, 25, 25, 0, 0, 0, 0, 100, 0, 0, 0, 0];
 const VALUES: [i32; NODES] = [24, 24, 24, 24, -6, -6, -6, -6, 94, -6, -6, -6, -6];
 const SHOWN: [u8; 9] = [0, 0, 0, 0, 94, 0, 0, 0, 0];
+
+// Closed-loop: what is left of piece A's level 0 after EXPAND of the rebuilt 24s is 76 at the centre, -24 elsewhere.
+const CLOSED_INDICES: [i16; NODES] = [6, 6, 6, 6, -2, -2, -2, -2, 8, -2, -2, -2, -2];
+const CLOSED_VALUES: [i32; NODES] = [24, 24, 24, 24, 4, 4, 4, 4, 104, 4, 4, 4, 4];
+const CLOSED_SHOWN: [u8; 9] = [4, 4, 4, 4, 104, 4, 4, 4, 4];
+
 const READINGS: [Reading; 2] = [Reading { kind: 1, number: 0x40D00000 }, Reading { kind: 0, number: 0 }];
 const NOTE: Note = Note { settings: PIECE_A, readings: READINGS };
 const FILE: [u8; 58] = [
@@ -48,12 +54,14 @@ fn refused<T>(number: u16) -> Result<T, Refused> {
 fn sizes(t: &mut Tally) {
     t.equal("nodes", lepsarvu::total_nodes(&PIECE_A), Ok(NODES));
     t.equal("bounds", lepsarvu::level_bounds(&PIECE_A), Ok([7, 2, 0, 0, 0, 0, 0]));
+    t.equal("closed-loop bounds", lepsarvu::closed_loop_bounds(&PIECE_A), Ok([5, 2, 0, 0, 0, 0, 0]));
     t.equal("file size", lepsarvu::file_size(&PIECE_A), Ok(FILE.len()));
     t.equal("deepest of 129 by 129", lepsarvu::deepest_depth(129, 129), Ok(6));
     t.equal("deepest of 97 by 97", lepsarvu::deepest_depth(97, 97), Ok(5));
     t.equal("deepest of 2 by 129", lepsarvu::deepest_depth(2, 129), Ok(0));
     t.equal("deepest of 1 by 2", lepsarvu::deepest_depth(1, 2), refused(1));
     t.equal("kernel 7", lepsarvu::level_bounds(&Settings { kernel: 7, ..PIECE_A }), refused(2));
+    t.equal("kernel 2", lepsarvu::closed_loop_bounds(&Settings { kernel: 2, ..PIECE_A }), refused(2));
     t.equal("no bin", lepsarvu::file_size(&Settings { bins: [0; 7], ..PIECE_A }), refused(3));
 }
 
@@ -90,19 +98,24 @@ fn refuse_shapes(t: &mut Tally) {
         let found = [
             lepsarvu::total_nodes(&s).err(),
             lepsarvu::level_bounds(&s).err(),
+            lepsarvu::closed_loop_bounds(&s).err(),
             lepsarvu::file_size(&s).err(),
-            b.code(0, 0, 0).err(),
+            b.code(lepsarvu::coding, 0, 0, 0).err(),
+            b.code(lepsarvu::closed_loop_coding, 0, 0, 0).err(),
             b.rebuild(0).err(),
             lepsarvu::write_file(&Note { settings: s, ..NOTE }, indices.part(), file.part_mut()).err(),
             lepsarvu::check_file(shaped.part()).err(),
             lepsarvu::read_file(shaped.part(), levels.part_mut()).err(),
         ];
         let name = format!("{columns} by {rows}, depth {depth}");
-        t.equal(&name, found, [Some(Refused(number)); 8]);
+        t.equal(&name, found, [Some(Refused(number)); 10]);
         let kept = [b.kept(), indices.kept(), file.kept(), levels.kept(), shaped.kept()];
         t.equal(&format!("{name}: unchanged"), kept, [true; 5]);
     }
 }
+
+/// Either coding.
+type Coding = fn(&Settings, &[u8], &mut [i16], &mut [i32]) -> Result<(), Refused>;
 
 /// The buffers of a coding and a rebuilding, and the settings, between guards.
 struct Buffers {
@@ -129,9 +142,9 @@ impl Buffers {
     }
 
     /// Codes with buffers from these places on.
-    fn code(&mut self, picture: usize, levels: usize, work: usize) -> Result<(), Refused> {
+    fn code(&mut self, coding: Coding, picture: usize, levels: usize, work: usize) -> Result<(), Refused> {
         let (lent, indices) = (&self.picture.part()[picture..], &mut self.levels.part_mut()[levels..]);
-        lepsarvu::coding(&self.settings.part()[0], lent, indices, &mut self.work.part_mut()[work..])
+        coding(&self.settings.part()[0], lent, indices, &mut self.work.part_mut()[work..])
     }
 
     fn rebuild(&mut self, work: usize) -> Result<(), Refused> {
@@ -151,18 +164,25 @@ impl Buffers {
 
 /// Places of the work buffer after T keep their contents.
 fn code_and_rebuild(t: &mut Tally) {
-    let mut b = Buffers::new(NODES + 2);
-    t.equal("coding", b.code(0, 0, 0), Ok(()));
-    t.equal("indices", b.levels.part(), &INDICES[..]);
-    t.equal("averages", &b.work.part()[..NODES], &AVERAGES[..]);
-    t.equal("after the averages", &b.work.part()[NODES..], &[77, 77][..]);
-    t.equal("coding: guards, and the picture that was to be shown", (b.guards_kept(), b.shown.kept()), (true, true));
-    b.levels.seal();
-    t.equal("rebuilding", b.rebuild(0), Ok(()));
-    t.equal("values", &b.work.part()[..NODES], &VALUES[..]);
-    t.equal("after the values", &b.work.part()[NODES..], &[77, 77][..]);
-    t.equal("picture", b.shown.part(), &SHOWN[..]);
-    t.equal("rebuilding: guards and levels", (b.guards_kept(), b.levels.kept()), (true, true));
+    let codings: [(Coding, _, _, _, _); 2] = [
+        (lepsarvu::coding, INDICES, AVERAGES, VALUES, SHOWN),
+        (lepsarvu::closed_loop_coding, CLOSED_INDICES, CLOSED_VALUES, CLOSED_VALUES, CLOSED_SHOWN),
+    ];
+    for (coding, indices, left, values, shown) in codings {
+        let mut b = Buffers::new(NODES + 2);
+        t.equal("coding", b.code(coding, 0, 0, 0), Ok(()));
+        t.equal("indices", b.levels.part(), &indices[..]);
+        t.equal("left in the work buffer", &b.work.part()[..NODES], &left[..]);
+        t.equal("after what was left", &b.work.part()[NODES..], &[77, 77][..]);
+        t.equal("coding: guards, and the picture to be shown", (b.guards_kept(), b.shown.kept()), (true, true));
+        b.levels.seal();
+        b.work.fill(66);
+        t.equal("rebuilding", b.rebuild(0), Ok(()));
+        t.equal("values", &b.work.part()[..NODES], &values[..]);
+        t.equal("after the values", &b.work.part()[NODES..], &[66, 66][..]);
+        t.equal("picture", b.shown.part(), &shown[..]);
+        t.equal("rebuilding: guards and levels", (b.guards_kept(), b.levels.kept()), (true, true));
+    }
 }
 
 /// Refused calls change nothing.
@@ -174,8 +194,10 @@ fn refuse_buffers(t: &mut Tally) {
         ("levels", (0, 1, 0), 6),
         ("work", (0, 0, 1), 7),
     ] {
-        t.equal(name, b.code(picture, levels, work), refused(number));
-        t.equal("unchanged", b.kept(), true);
+        for coding in [lepsarvu::coding as Coding, lepsarvu::closed_loop_coding] {
+            t.equal(name, b.code(coding, picture, levels, work), refused(number));
+            t.equal("unchanged", b.kept(), true);
+        }
     }
     let mut large = INDICES;
     large[4] = 410; // times bin 10

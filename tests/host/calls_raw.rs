@@ -2,10 +2,17 @@
 //! stands between guards here too.
 
 use crate::lent::Lent;
-use crate::{file_of, Tally, FILE, INDICES, NODES, PICTURE, PIECE_A, SHAPES, SHOWN};
+use crate::{
+    file_of, Tally, CLOSED_INDICES, CLOSED_SHOWN, CLOSED_VALUES, FILE, INDICES, NODES, PICTURE, PIECE_A, SHAPES, SHOWN,
+};
 
 extern "C" {
     fn lepsarvu_coding(
+        columns: u16, rows: u16, depth: u16, kernel: u16, bins: *const u16,
+        picture: *const u8, picture_length: usize, levels: *mut i16, levels_length: usize,
+        work: *mut i32, work_length: usize,
+    ) -> u16;
+    fn lepsarvu_closed_loop_coding(
         columns: u16, rows: u16, depth: u16, kernel: u16, bins: *const u16,
         picture: *const u8, picture_length: usize, levels: *mut i16, levels_length: usize,
         work: *mut i32, work_length: usize,
@@ -16,6 +23,9 @@ extern "C" {
         work: *mut i32, work_length: usize,
     ) -> u16;
     fn lepsarvu_level_bounds(
+        columns: u16, rows: u16, depth: u16, kernel: u16, bins: *const u16, bounds: *mut u16,
+    ) -> u16;
+    fn lepsarvu_closed_loop_bounds(
         columns: u16, rows: u16, depth: u16, kernel: u16, bins: *const u16, bounds: *mut u16,
     ) -> u16;
     fn lepsarvu_deepest_depth(columns: u16, rows: u16, depth: *mut u16) -> u16;
@@ -48,6 +58,7 @@ struct Things {
     number: Lent<u16>,
     size: Lent<usize>,
     bounds: Lent<u16>,
+    closed_bounds: Lent<u16>,
     shape: Lent<u16>,
     read_bins: Lent<u16>,
     kinds: Lent<u8>,
@@ -65,6 +76,7 @@ impl Things {
             number: Lent::of(&[99]),
             size: Lent::of(&[99]),
             bounds: Lent::of(&[99; 7]),
+            closed_bounds: Lent::of(&[99; 7]),
             shape: Lent::of(&[99; 4]),
             read_bins: Lent::of(&[99; 7]),
             kinds: Lent::of(&[99; 2]),
@@ -85,7 +97,7 @@ impl Things {
                 self.$thing.seal();
             )* };
         }
-        look!(bins picture levels work file number size bounds shape read_bins kinds numbers);
+        look!(bins picture levels work file number size bounds closed_bounds shape read_bins kinds numbers);
         names
     }
 }
@@ -101,11 +113,15 @@ fn sizes(t: &mut Tally, it: &mut Things) {
         t.equal("raw nodes", (found, it.changed()), (answer, changed("number")));
         let found = unsafe { lepsarvu_level_bounds(3, 3, 1, kernel, it.bins.pointer(), it.bounds.pointer()) };
         t.equal("raw bounds", (found, it.changed()), (answer, changed("bounds")));
+        let closed = &mut it.closed_bounds;
+        let found = unsafe { lepsarvu_closed_loop_bounds(3, 3, 1, kernel, it.bins.pointer(), closed.pointer()) };
+        t.equal("raw closed-loop bounds", (found, it.changed()), (answer, changed("closed_bounds")));
         let found = unsafe { lepsarvu_file_size(3, 3, 1, kernel, it.bins.pointer(), it.size.pointer()) };
         t.equal("raw file size", (found, it.changed()), (answer, changed("size")));
     }
     t.equal("raw numbers", (it.number.part(), it.size.part()), (&[NODES as u16][..], &[FILE.len()][..]));
     t.equal("raw bounds", it.bounds.part(), &[7, 2, 0, 0, 0, 0, 0][..]);
+    t.equal("raw closed-loop bounds", it.closed_bounds.part(), &[5, 2, 0, 0, 0, 0, 0][..]);
 }
 
 /// Every function tells which size is at fault, and changes nothing.
@@ -117,8 +133,13 @@ fn refuse_shapes(t: &mut Tally, it: &mut Things) {
             [
                 lepsarvu_total_nodes(columns, rows, depth, 4, bins, it.number.pointer()),
                 lepsarvu_level_bounds(columns, rows, depth, 4, bins, it.bounds.pointer()),
+                lepsarvu_closed_loop_bounds(columns, rows, depth, 4, bins, it.closed_bounds.pointer()),
                 lepsarvu_file_size(columns, rows, depth, 4, bins, it.size.pointer()),
                 lepsarvu_coding(
+                    columns, rows, depth, 4, bins, it.picture.pointer(), 9, it.levels.pointer(), NODES,
+                    it.work.pointer(), NODES,
+                ),
+                lepsarvu_closed_loop_coding(
                     columns, rows, depth, 4, bins, it.picture.pointer(), 9, it.levels.pointer(), NODES,
                     it.work.pointer(), NODES,
                 ),
@@ -141,7 +162,7 @@ fn refuse_shapes(t: &mut Tally, it: &mut Things) {
             ]
         };
         let name = format!("raw {columns} by {rows}, depth {depth}");
-        t.equal(&name, (found, it.changed(), file.kept()), ([number; 8], vec![], true));
+        t.equal(&name, (found, it.changed(), file.kept()), ([number; 10], vec![], true));
     }
 }
 
@@ -164,6 +185,31 @@ fn code_and_rebuild(t: &mut Tally, it: &mut Things) {
         t.equal("raw rebuilding", (found, it.changed()), (answer, changed(vec!["picture", "work"])));
     }
     t.equal("raw picture and indices", (it.picture.part(), it.levels.part()), (&SHOWN[..], &INDICES[..]));
+}
+
+/// Closed-loop, in things of its own; what the coding leaves in the work buffer is what the rebuilding leaves there.
+fn code_closed_and_rebuild(t: &mut Tally, _: &mut Things) {
+    let mut it = Things::new();
+    for (places, answer) in [(NODES - 1, 7), (NODES, 0)] {
+        let changed = |names| if answer == 0 { names } else { vec![] };
+        let found = unsafe {
+            lepsarvu_closed_loop_coding(
+                3, 3, 1, 4, it.bins.pointer(), it.picture.pointer(), 9, it.levels.pointer(), NODES, it.work.pointer(),
+                places,
+            )
+        };
+        t.equal("raw closed-loop coding", (found, it.changed()), (answer, changed(vec!["levels", "work"])));
+    }
+    t.equal("raw values and indices", (it.work.part(), it.levels.part()), (&CLOSED_VALUES[..], &CLOSED_INDICES[..]));
+    it.work.fill(99);
+    let found = unsafe {
+        lepsarvu_rebuilding(
+            3, 3, 1, 4, it.bins.pointer(), it.levels.pointer(), NODES, it.picture.pointer(), 9, it.work.pointer(),
+            NODES,
+        )
+    };
+    t.equal("raw rebuilding", (found, it.changed()), (0, vec!["picture", "work"]));
+    t.equal("raw picture and values", (it.picture.part(), it.work.part()), (&CLOSED_SHOWN[..], &CLOSED_VALUES[..]));
 }
 
 fn write(t: &mut Tally, it: &mut Things) {
@@ -219,7 +265,7 @@ fn notice(t: &mut Tally) {
 pub fn all(t: &mut Tally) {
     let mut it = Things::new();
     notice(t);
-    for part in [sizes, refuse_shapes, code_and_rebuild, write, read] {
+    for part in [sizes, refuse_shapes, code_and_rebuild, code_closed_and_rebuild, write, read] {
         part(t, &mut it);
     }
 }

@@ -9,10 +9,12 @@ enum { SMALL_CASES = 1000000, LARGE_CASES = 6000, SMALL_SIDE = 9, LARGE_SIDE = 1
 /* All functions but the readers. */
 static void compare_calls(struct run *run, const struct settings *s)
 {
+    enum manner last = once_in(&run->draw, 2) ? OPEN_LOOP : CLOSED_LOOP; /* what it coded is rebuilt and written */
     run->tally.number++;
     compare_deepest(run, s->columns, s->rows);
     compare_settings(run, s);
-    compare_coding(run, s);
+    compare_coding(run, s, last == OPEN_LOOP ? CLOSED_LOOP : OPEN_LOOP);
+    compare_coding(run, s, last);
     compare_rebuilding(run, s);
     compare_writing(run, s);
     compare_writing_pgm(run, s);

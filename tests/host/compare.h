@@ -27,7 +27,7 @@ struct pgm_picture {
 
 void compare_deepest(struct run *run, uint16_t columns, uint16_t rows);
 void compare_settings(struct run *run, const struct settings *s);
-void compare_coding(struct run *run, const struct settings *s);
+void compare_coding(struct run *run, const struct settings *s, enum manner manner);
 void compare_rebuilding(struct run *run, const struct settings *s);
 void compare_writing(struct run *run, const struct settings *s);
 void compare_reading(struct run *run);
@@ -48,6 +48,9 @@ uint16_t compare_check_pgm(struct run *run, const uint8_t *contents, size_t leng
 /* PGM files and pictures that are not drawn: see every_pgm.c and sets_pgm.c. */
 void every_pgm(struct run *run);
 void every_set_pgm(struct run *run);
+
+/* Whether the library files what closed-loop coding left, and rebuilds from the file the values that the coder left. */
+int files_and_rebuilds(struct run *run, const struct settings *s, const int16_t *coded, const int32_t *values);
 
 /* A level buffer of so many indices between guards: coded ones if there are as many, or drawn ones. */
 const int16_t *lend_levels(struct run *run, const struct settings *s, struct lent *levels, size_t length);

@@ -20,6 +20,11 @@ static uint16_t call_bounds(int which, const struct settings *s, const uint16_t 
     return PYRAMIDS[which]->level_bounds(SETTINGS(*s, bins), left);
 }
 
+static uint16_t call_closed_bounds(int which, const struct settings *s, const uint16_t *bins, void *left)
+{
+    return PYRAMIDS[which]->closed_loop_bounds(SETTINGS(*s, bins), left);
+}
+
 static uint16_t call_total(int which, const struct settings *s, const uint16_t *bins, void *left)
 {
     return PYRAMIDS[which]->total_nodes(SETTINGS(*s, bins), left);
@@ -46,6 +51,7 @@ static void compare_call(struct run *run, const struct settings *s, enum functio
 void compare_settings(struct run *run, const struct settings *s)
 {
     compare_call(run, s, LEVEL_BOUNDS, call_bounds, sizeof s->bins);
+    compare_call(run, s, CLOSED_LOOP_BOUNDS, call_closed_bounds, sizeof s->bins);
     compare_call(run, s, TOTAL_NODES, call_total, sizeof(uint16_t));
     compare_call(run, s, FILE_SIZE, call_size, sizeof(size_t));
 }
@@ -62,7 +68,7 @@ static void keep_coded(struct run *run, const struct lent *levels, uint16_t answ
     memcpy(run->levels, levels->memory + GUARD, run->coded * sizeof(int16_t));
 }
 
-void compare_coding(struct run *run, const struct settings *s)
+void compare_coding(struct run *run, const struct settings *s, enum manner manner)
 {
     static struct lent bins, picture, levels[2], work[2];
     uint16_t answers[2];
@@ -74,13 +80,15 @@ void compare_coding(struct run *run, const struct settings *s)
     lend_pair(levels, indices * sizeof(int16_t), &run->draw);
     lend_pair(work, places * sizeof(int32_t), &run->draw);
     for (int which = 0; which < 2; which++)
-        answers[which] =
-            PYRAMIDS[which]->coding(SETTINGS(*s, lent_bins), start_of(&picture), pixels, start_of(&levels[which]),
-                                    indices, start_of(&work[which]), places);
+        answers[which] = coding_in(manner, PYRAMIDS[which])(SETTINGS(*s, lent_bins), start_of(&picture), pixels,
+                                                            start_of(&levels[which]), indices,
+                                                            start_of(&work[which]), places);
     int passed = answers[0] == answers[1] && kept(&bins) && kept(&picture) &&
                  same_pair(levels, answers[0], nodes * sizeof(int16_t)) &&
                  same_pair(work, answers[0], nodes * sizeof(int32_t));
-    count(&run->tally, CODING, answers[0], passed);
+    if (manner == CLOSED_LOOP && answers[0] == 0)
+        passed = passed && files_and_rebuilds(run, s, start_of(&levels[0]), start_of(&work[0]));
+    count(&run->tally, manner == CLOSED_LOOP ? CLOSED_LOOP_CODING : CODING, answers[0], passed);
     keep_coded(run, &levels[1], answers[1]);
 }
 

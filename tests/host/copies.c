@@ -2,9 +2,10 @@
  * writes it with the readings that it read. See lists.h. */
 #include "lists.h"
 
-/* Two file buffers, one of which holds the file at hand in its first bytes. */
+/* Two file buffers, one of which holds the file at hand in its first bytes, and what was coded for each. */
 static struct lent file[2];
 static size_t file_bytes[2];
+static struct coded coded[2];
 static int at_hand;
 
 /* What is read of a file, and what is lent besides. */
@@ -47,7 +48,8 @@ static int work_kept(const struct settings *s, uint16_t answer)
     return kept_from(&work, answer == 0 ? nodes_of(s) * sizeof(int32_t) : 0);
 }
 
-static uint16_t rebuild(int careless)
+/* What is rebuilt is held to what was coded for the file. */
+static uint16_t rebuild(struct seen *seen, int careless)
 {
     struct settings s = read_settings();
     size_t pixels = step_length(careless, pixels_of(&s)), places = step_length(careless, nodes_of(&s));
@@ -59,21 +61,26 @@ static uint16_t rebuild(int careless)
                                                  levels.bytes / sizeof(int16_t), start_of(&picture), pixels,
                                                  start_of(&work), places);
     int guards = kept(&bins) && kept(&levels) && guards_kept(&picture) && work_kept(&s, answer);
-    return guards && (answer == 0 || kept(&picture)) ? answer : BROKEN;
+    int right = answer == 0 ? rebuilt_right(seen, &coded[at_hand], start_of(&work)) : kept(&picture);
+    return guards && right ? answer : BROKEN;
 }
 
-/* Codes the picture that was rebuilt, or the first one. */
+/* Codes the picture that was rebuilt, or the first one, open-loop or closed-loop. */
 static uint16_t code(const struct settings *s, int careless)
 {
+    enum manner manner = draw_manner();
     size_t indices = step_length(careless, nodes_of(s)), places = step_length(careless, nodes_of(s));
     lend_copy(&bins, s->bins, sizeof s->bins, &draw);
     seal(&picture);
     lend_sealed(&levels, indices * sizeof(int16_t));
     lend_sealed(&work, places * sizeof(int32_t));
-    uint16_t answer = library_pyramid.coding(SETTINGS(*s, start_of(&bins)), start_of(&picture), picture.bytes,
-                                             start_of(&levels), indices, start_of(&work), places);
+    uint16_t answer = coding_in(manner, &library_pyramid)(SETTINGS(*s, start_of(&bins)), start_of(&picture),
+                                                          picture.bytes, start_of(&levels), indices, start_of(&work),
+                                                          places);
     int guards = kept(&bins) && kept(&picture) && guards_kept(&levels) && work_kept(s, answer);
-    return guards && (answer == 0 || kept(&levels)) ? answer : BROKEN;
+    int right = answer == 0 ? take_coded(&coded[1 - at_hand], manner, s, start_of(&picture), start_of(&work))
+                            : kept(&levels);
+    return guards && right ? answer : BROKEN;
 }
 
 /* Writes what was coded to the file buffer that is not at hand. */
@@ -111,28 +118,26 @@ static void take_readings(struct reading reading[2])
 }
 
 /* One copy: the answer of its first call that was refused, which `call` names, or of its last. */
-static uint16_t copy(struct list *list, size_t *nodes, int *call)
+static uint16_t copy(struct seen *seen, struct list *list, size_t *nodes, int *call)
 {
     struct settings s = draw_step(list);
     struct reading reading[2];
-    uint16_t bounds[LEPSARVU_SLOTS];
     int careless = (int)below(&draw, 10); /* in which call, if any */
     uint16_t answer = read_at_hand(careless == (*call = 0), *nodes);
     if (answer != 0)
         return answer;
     take_readings(reading);
-    if ((answer = rebuild(careless == (*call = 1))) != 0 || (answer = code(&s, careless == (*call = 2))) != 0 ||
+    if ((answer = rebuild(seen, careless == (*call = 1))) != 0 || (answer = code(&s, careless == (*call = 2))) != 0 ||
         (answer = write(&s, reading, careless == (*call = 3))) != 0)
         return answer;
     take_file();
     *nodes = nodes_of(&s);
-    return take_bounds(list, &s, bounds) ? 0 : BROKEN;
+    return take_bounds(list, &coded[at_hand]) ? 0 : BROKEN;
 }
 
 /* The first picture's file. */
 static int make_first(struct list *list, const struct settings *s, const uint8_t *first)
 {
-    uint16_t bounds[LEPSARVU_SLOTS];
     drier = draw_lawful_reading(&draw);
     press = draw_lawful_reading(&draw);
     at_hand = 0;
@@ -140,14 +145,14 @@ static int make_first(struct list *list, const struct settings *s, const uint8_t
     if (code(s, 0) != 0 || write(s, (const struct reading[2]){drier, press}, 0) != 0)
         return 0;
     take_file();
-    return take_bounds(list, s, bounds);
+    return take_bounds(list, &coded[at_hand]);
 }
 
 /* What the file at hand shows after the list: a picture close to the first one, and the first readings. */
 static int shows(struct seen *seen, const struct list *list, size_t nodes, const uint8_t *first, size_t pixels)
 {
     struct reading reading[2];
-    if (read_at_hand(0, nodes) != 0 || rebuild(0) != 0)
+    if (read_at_hand(0, nodes) != 0 || rebuild(seen, 0) != 0)
         return 0;
     take_readings(reading);
     return reading[0].kind == drier.kind && reading[0].number == drier.number && reading[1].kind == press.kind &&
@@ -165,7 +170,7 @@ int run_copies(struct seen *seen, struct list *list)
     if (!make_first(list, &s, first))
         return 0;
     for (uint32_t step = 0; step < list->steps; step++) {
-        uint16_t answer = copy(list, &nodes, &call);
+        uint16_t answer = copy(seen, list, &nodes, &call);
         if (answer == BROKEN || !kept(&file[at_hand]))
             return 0;
         seen->accepted += answer == 0;

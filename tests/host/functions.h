@@ -4,19 +4,36 @@
 
 #include "../../include/lepsarvu.h"
 
+/* Both codings are called alike, and both bounds. */
+typedef uint16_t coding_call(uint16_t columns, uint16_t rows, uint16_t depth, uint16_t kernel, const uint16_t bins[7],
+                             const uint8_t *picture, size_t picture_length, int16_t *levels, size_t levels_length,
+                             int32_t *work, size_t work_length);
+typedef uint16_t bounds_call(uint16_t columns, uint16_t rows, uint16_t depth, uint16_t kernel, const uint16_t bins[7],
+                             uint16_t bounds[7]);
+
 struct pyramid_calls {
-    uint16_t (*coding)(uint16_t columns, uint16_t rows, uint16_t depth, uint16_t kernel, const uint16_t bins[7],
-                       const uint8_t *picture, size_t picture_length, int16_t *levels, size_t levels_length,
-                       int32_t *work, size_t work_length);
+    coding_call *coding, *closed_loop_coding;
     uint16_t (*rebuilding)(uint16_t columns, uint16_t rows, uint16_t depth, uint16_t kernel, const uint16_t bins[7],
                            const int16_t *levels, size_t levels_length, uint8_t *picture, size_t picture_length,
                            int32_t *work, size_t work_length);
-    uint16_t (*level_bounds)(uint16_t columns, uint16_t rows, uint16_t depth, uint16_t kernel,
-                             const uint16_t bins[7], uint16_t bounds[7]);
+    bounds_call *level_bounds, *closed_loop_bounds;
     uint16_t (*deepest_depth)(uint16_t columns, uint16_t rows, uint16_t *depth);
     uint16_t (*total_nodes)(uint16_t columns, uint16_t rows, uint16_t depth, uint16_t kernel,
                             const uint16_t bins[7], uint16_t *nodes);
 };
+
+/* The two manners of coding a picture. */
+enum manner { OPEN_LOOP, CLOSED_LOOP, MANNERS };
+
+static inline coding_call *coding_in(enum manner manner, const struct pyramid_calls *of)
+{
+    return manner == CLOSED_LOOP ? of->closed_loop_coding : of->coding;
+}
+
+static inline bounds_call *bounds_in(enum manner manner, const struct pyramid_calls *of)
+{
+    return manner == CLOSED_LOOP ? of->closed_loop_bounds : of->level_bounds;
+}
 
 struct file_calls {
     uint16_t (*file_size)(uint16_t columns, uint16_t rows, uint16_t depth, uint16_t kernel, const uint16_t bins[7],

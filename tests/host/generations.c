@@ -5,29 +5,29 @@
 static struct lent picture[2], bins, levels, work[2];
 static int at_hand;
 
-/* What the coding left: the averages of all levels. */
-static int32_t averages[LEPSARVU_MOST_NODES];
+/* What the coding left. */
+static struct coded coded;
 
 enum outcome { BROKEN = -1, REFUSED, ACCEPTED };
 
-/* Codes the picture at hand. */
+/* Codes the picture at hand, open-loop or closed-loop. */
 static enum outcome code(const struct settings *s, int careless)
 {
+    enum manner manner = draw_manner();
     size_t nodes = nodes_of(s), indices = step_length(careless, nodes), places = step_length(careless, nodes);
     const uint16_t *lent_bins = lend_copy(&bins, s->bins, sizeof s->bins, &draw);
     int16_t *to = lend_sealed(&levels, indices * sizeof(int16_t));
-    int32_t *averaged = lend_sealed(&work[0], places * sizeof(int32_t));
+    int32_t *left = lend_sealed(&work[0], places * sizeof(int32_t));
     seal(&picture[at_hand]);
-    uint16_t answer = library_pyramid.coding(SETTINGS(*s, lent_bins), start_of(&picture[at_hand]),
-                                             picture[at_hand].bytes, to, indices, averaged, places);
+    uint16_t answer = coding_in(manner, &library_pyramid)(SETTINGS(*s, lent_bins), start_of(&picture[at_hand]),
+                                                          picture[at_hand].bytes, to, indices, left, places);
     if (!kept(&bins) || !kept(&picture[at_hand]))
         return BROKEN;
     if (answer != 0)
         return kept(&levels) && kept(&work[0]) ? REFUSED : BROKEN;
     if (!guards_kept(&levels) || !kept_from(&work[0], nodes * sizeof(int32_t)))
         return BROKEN;
-    memcpy(averages, averaged, nodes * sizeof(int32_t));
-    return ACCEPTED;
+    return take_coded(&coded, manner, s, start_of(&picture[at_hand]), left) ? ACCEPTED : BROKEN;
 }
 
 /* Rebuilds from the levels as the coding left them, into a picture buffer and with a work buffer. */
@@ -46,24 +46,10 @@ static enum outcome rebuild(const struct settings *s, struct lent *into, struct 
     return guards_kept(into) && kept_from(with, nodes_of(s) * sizeof(int32_t)) ? ACCEPTED : BROKEN;
 }
 
-/* Every rebuilt value is within its level's bound of the average that the coding left. */
-static int levels_close(const struct settings *s, const int32_t *rebuilt, const uint16_t bounds[LEPSARVU_SLOTS])
-{
-    size_t at = 0;
-    for (int level = s->depth; level >= 0; level--)
-        for (int64_t nodes = plain_side(s->columns, level) * plain_side(s->rows, level); nodes > 0; nodes--, at++) {
-            int64_t error = (int64_t)rebuilt[at] - averages[at];
-            if (error < -bounds[level] || error > bounds[level])
-                return 0;
-        }
-    return 1;
-}
-
 /* One generation, into the same picture buffer or the other, with the same work buffer or another. */
 static enum outcome generation(struct seen *seen, struct list *list)
 {
     struct settings s = draw_step(list);
-    uint16_t bounds[LEPSARVU_SLOTS];
     int careless = once_in(&draw, 5), into = once_in(&draw, 2) ? at_hand : 1 - at_hand, with = (int)below(&draw, 2);
     enum outcome outcome = code(&s, careless);
     seen->refused_call[0] += outcome == REFUSED;
@@ -79,7 +65,7 @@ static enum outcome generation(struct seen *seen, struct list *list)
     if (outcome != ACCEPTED)
         return outcome;
     at_hand = into;
-    int passed = take_bounds(list, &s, bounds) && levels_close(&s, start_of(&work[with]), bounds);
+    int passed = take_bounds(list, &coded) && rebuilt_right(seen, &coded, start_of(&work[with]));
     return passed ? ACCEPTED : BROKEN;
 }
 

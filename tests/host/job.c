@@ -1,4 +1,4 @@
-/* Jobs and cases: see job.h. */
+/* Jobs: see job.h. */
 #include "job.h"
 
 #include <string.h>
@@ -19,12 +19,12 @@ static const size_t ALWAYS[THINGS] = {
     [READ_BINS] = LEPSARVU_SLOTS, [KINDS] = 2, [NUMBERS] = 2, [COLUMNS] = 1, [ROWS] = 1,
 };
 
-static size_t elements(enum thing thing)
+size_t elements(enum thing thing)
 {
     return job.bytes[thing] / ELEMENT[thing];
 }
 
-static void lengthen(enum thing thing, size_t many)
+void lengthen(enum thing thing, size_t many)
 {
     job.bytes[thing] = many * ELEMENT[thing];
 }
@@ -50,10 +50,20 @@ void provide_settings(struct seeded *draw, struct settings s)
     provide_copy(BINS, s.bins, LEPSARVU_SLOTS);
 }
 
+static void code(enum manner manner)
+{
+    job.answer = coding_in(manner, job.pyramid)(SETTINGS(job.s, job.at[BINS]), job.at[PICTURE], elements(PICTURE),
+                                                job.at[LEVELS], elements(LEVELS), job.at[WORK], elements(WORK));
+}
+
 static void coding(void)
 {
-    job.answer = job.pyramid->coding(SETTINGS(job.s, job.at[BINS]), job.at[PICTURE], elements(PICTURE), job.at[LEVELS],
-                                     elements(LEVELS), job.at[WORK], elements(WORK));
+    code(OPEN_LOOP);
+}
+
+static void closed_loop_coding(void)
+{
+    code(CLOSED_LOOP);
 }
 
 static void rebuilding(void)
@@ -65,6 +75,11 @@ static void rebuilding(void)
 static void level_bounds(void)
 {
     job.answer = job.pyramid->level_bounds(SETTINGS(job.s, job.at[BINS]), job.at[BOUNDS]);
+}
+
+static void closed_loop_bounds(void)
+{
+    job.answer = job.pyramid->closed_loop_bounds(SETTINGS(job.s, job.at[BINS]), job.at[BOUNDS]);
 }
 
 static void deepest_depth(void)
@@ -123,9 +138,11 @@ static void check_pgm(void)
     job.answer = job.pgm->check_pgm(job.at[FILE_PART], elements(FILE_PART), job.at[COLUMNS], job.at[ROWS]);
 }
 
-void (*const JOB_CALLS[FUNCTIONS])(void) = {coding,    rebuilding, level_bounds, deepest_depth, total_nodes,
-                                            file_size, write_file, read_file,    check_file,    pgm_size,
-                                            write_pgm, read_pgm,   check_pgm};
+void (*const JOB_CALLS[FUNCTIONS])(void) = {
+    coding,        closed_loop_coding, rebuilding, level_bounds, closed_loop_bounds,
+    deepest_depth, total_nodes,        file_size,  write_file,   read_file,
+    check_file,    pgm_size,           write_pgm,  read_pgm,     check_pgm,
+};
 
 #define NOTE (1 << SHAPE | 1 << READ_BINS | 1 << KINDS | 1 << NUMBERS)
 
@@ -133,8 +150,10 @@ static const struct {
     unsigned reads, writes;
 } LENT[FUNCTIONS] = {
     [CODING] = {1 << BINS | 1 << PICTURE, 1 << LEVELS | 1 << WORK},
+    [CLOSED_LOOP_CODING] = {1 << BINS | 1 << PICTURE, 1 << LEVELS | 1 << WORK},
     [REBUILDING] = {1 << BINS | 1 << LEVELS, 1 << PICTURE | 1 << WORK},
     [LEVEL_BOUNDS] = {1 << BINS, 1 << BOUNDS},
+    [CLOSED_LOOP_BOUNDS] = {1 << BINS, 1 << BOUNDS},
     [DEEPEST_DEPTH] = {0, 1 << NUMBER},
     [TOTAL_NODES] = {1 << BINS, 1 << NUMBER},
     [FILE_SIZE] = {1 << BINS, 1 << SIZE},
@@ -175,104 +194,4 @@ void hold_again(enum function function)
     for (enum thing thing = 0; thing < THINGS; thing++)
         if (may_write(function, thing))
             memcpy(job.held[thing], job.at[thing], job.bytes[thing]);
-}
-
-/* The calls that need settings and nothing else. */
-static void settings_case(struct seeded *draw, struct settings s, each_job *each)
-{
-    provide_settings(draw, s);
-    each(DEEPEST_DEPTH);
-    each(LEVEL_BOUNDS);
-    each(TOTAL_NODES);
-    each(FILE_SIZE);
-    each(PGM_SIZE);
-}
-
-/* The file that was written becomes the one to read. */
-static void shorten_file(void)
-{
-    size_t size;
-    memcpy(&size, job.held[SIZE], sizeof size);
-    lengthen(FILE_PART, size);
-}
-
-/* Both readers, each lent numbers that hold anything, so that what one leaves doesn't hide what the other does. */
-static void read_pgm_case(struct seeded *draw, each_job *each)
-{
-    static const enum function READERS[] = {CHECK_PGM, READ_PGM};
-    for (int which = 0; which < 2; which++) {
-        provide(draw, COLUMNS, 1);
-        provide(draw, ROWS, 1);
-        each(READERS[which]);
-    }
-}
-
-void lawful_case(struct seeded *draw, struct settings s, each_job *each)
-{
-    settings_case(draw, s, each);
-    provide(draw, PICTURE, pixels_of(&s));
-    provide(draw, LEVELS, nodes_of(&s));
-    provide(draw, WORK, nodes_of(&s));
-    provide(draw, FILE_PART, LEPSARVU_MOST_FILE_BYTES);
-    job.drier = (struct reading){1, 0x40D00000};
-    job.press = (struct reading){2, 255};
-    draw_picture(draw, &s, job.held[PICTURE], pixels_of(&s));
-    each(CODING);
-    each(REBUILDING);
-    each(WRITE_FILE);
-    shorten_file();
-    each(CHECK_FILE);
-    each(READ_FILE);
-    provide(draw, FILE_PART, LEPSARVU_MOST_PGM_BYTES);
-    each(WRITE_PGM);
-    shorten_file();
-    read_pgm_case(draw, each);
-}
-
-/* A file buffer's length: the file's, one that may be wrong, a small one or the largest. */
-static size_t draw_file_length(struct seeded *draw, const struct settings *s)
-{
-    size_t whole = 0;
-    if (once_in(draw, 8))
-        return below(draw, 60);
-    if (plain_file.file_size(SETTINGS(*s, s->bins), &whole) != 0 || once_in(draw, 3))
-        return LEPSARVU_MOST_FILE_BYTES;
-    return draw_length(draw, whole);
-}
-
-/* Writing the picture that is held, and reading a file that is drawn. */
-static void drawn_pgm(struct seeded *draw, uint32_t most_side, each_job *each)
-{
-    size_t whole, pixels;
-    if (plain_pgm.pgm_size(job.s.columns, job.s.rows, &whole) != 0 || once_in(draw, 3))
-        whole = LEPSARVU_MOST_PGM_BYTES;
-    provide(draw, FILE_PART, draw_length(draw, whole));
-    each(WRITE_PGM);
-    lengthen(FILE_PART, draw_pgm(draw, most_side, job.held[FILE_PART], &pixels));
-    provide(draw, PICTURE, draw_length(draw, pixels));
-    read_pgm_case(draw, each);
-}
-
-void drawn_case(struct seeded *draw, uint32_t most_side, each_job *each)
-{
-    struct settings s = draw_settings(draw, most_side);
-    size_t nodes = nodes_of(&s);
-    settings_case(draw, s, each);
-    provide(draw, PICTURE, draw_length(draw, pixels_of(&s)));
-    provide(draw, LEVELS, draw_length(draw, nodes));
-    provide(draw, WORK, draw_length(draw, nodes) + below(draw, 3));
-    provide(draw, FILE_PART, draw_file_length(draw, &s));
-    job.drier = draw_reading(draw);
-    job.press = draw_reading(draw);
-    draw_picture(draw, &s, job.held[PICTURE], elements(PICTURE));
-    each(CODING);
-    if (job.answer != 0 || once_in(draw, 2))
-        draw_levels(draw, &s, (int16_t *)(void *)job.held[LEVELS], elements(LEVELS));
-    each(REBUILDING);
-    each(WRITE_FILE);
-    lengthen(FILE_PART, draw_file(draw, most_side, job.held[FILE_PART]));
-    provide(draw, LEVELS, draw_length(draw, shape_nodes(job.held[FILE_PART], elements(FILE_PART))));
-    each(CHECK_FILE);
-    each(READ_FILE);
-    drawn_pgm(draw, most_side, each);
 }

@@ -43,6 +43,10 @@ struct job {
 
 extern struct job job;
 
+/* How many elements a thing has, and that it has so many from now on, which hold what they hold. */
+size_t elements(enum thing thing);
+void lengthen(enum thing thing, size_t many);
+
 /* So many elements of a thing, which hold anything; so many that hold something. */
 void provide(struct seeded *draw, enum thing thing, size_t many);
 void provide_copy(enum thing thing, const void *contents, size_t many);
@@ -66,8 +70,8 @@ void hold_again(enum function function);
 /* What a test does with a function's job: it lays out what the function is lent, makes the call and looks. */
 typedef void each_job(enum function function);
 
-/* Right lengths: the levels that coding leaves are rebuilt and written, and the file that was written is read; so is
- * a PGM file of the rebuilt picture. */
+/* Right lengths: the levels that one of the two codings leaves are rebuilt and written, and the file that was written
+ * is read; so is a PGM file of the rebuilt picture. */
 void lawful_case(struct seeded *draw, struct settings s, each_job *each);
 
 /* Any settings, lengths, level buffers, readings and files. */

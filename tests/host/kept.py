@@ -17,7 +17,13 @@ from tally import Tally  # noqa: E402
 from vectors import KINDS  # noqa: E402
 
 # The crate whose data a kind is.
-HOMES = {"pyramid": "test_vectors", "levels": "test_vectors", "files": "test_files", "pgm": "test_pgm"}
+HOMES = {
+    "pyramid": "test_vectors",
+    "closed": "test_vectors",
+    "levels": "test_vectors",
+    "files": "test_files",
+    "pgm": "test_pgm",
+}
 
 
 def first_difference(first: bytes, second: bytes) -> str:

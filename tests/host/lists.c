@@ -1,6 +1,7 @@
 /* Demand 3 on the library, over whole lists: lists generations|copies [SEED [SMALL [LARGE]]]
- * A list has 0 to 6 generations, or archive copies, of one picture, lawful or not. After it, every pixel must be within
- * the sum of the accepted ones' bounds of the first picture. */
+ * A list has 0 to 6 generations, or archive copies, of one picture, lawful or not, each coded open-loop or closed-loop.
+ * After it, every pixel must be within the sum of the accepted ones' bounds of the first picture, of each the bound of
+ * the manner in which it was coded. */
 #include <inttypes.h>
 #include <stdlib.h>
 #include <string.h>
@@ -35,19 +36,64 @@ void *lend_sealed(struct lent *it, size_t bytes)
     return start_of(it);
 }
 
-int take_bounds(struct list *list, const struct settings *s, uint16_t bounds[LEPSARVU_SLOTS])
+enum manner draw_manner(void)
+{
+    return once_in(&draw, 2) ? CLOSED_LOOP : OPEN_LOOP;
+}
+
+int take_coded(struct coded *it, enum manner manner, const struct settings *s, const uint8_t *picture,
+               const int32_t *left)
+{
+    static int16_t levels[LEPSARVU_MOST_NODES];
+    size_t nodes = nodes_of(s);
+    it->manner = manner;
+    it->s = *s;
+    memcpy(manner == CLOSED_LOOP ? it->values : it->averages, left, nodes * sizeof *left);
+    return manner == OPEN_LOOP || plain_pyramid.coding(SETTINGS(*s, s->bins), picture, pixels_of(s), levels, nodes,
+                                                       it->averages, nodes) == 0;
+}
+
+int take_bounds(struct list *list, struct coded *it)
 {
     static struct lent bins, found;
     uint16_t expected[LEPSARVU_SLOTS];
-    const uint16_t *lent_bins = lend_copy(&bins, s->bins, sizeof s->bins, &draw);
-    uint16_t answer = library_pyramid.level_bounds(SETTINGS(*s, lent_bins), lend_sealed(&found, sizeof expected));
-    memcpy(bounds, start_of(&found), sizeof expected);
-    if (answer != 0 || plain_pyramid.level_bounds(SETTINGS(*s, s->bins), expected) != 0)
+    const uint16_t *lent_bins = lend_copy(&bins, it->s.bins, sizeof it->s.bins, &draw);
+    uint16_t answer = bounds_in(it->manner, &library_pyramid)(SETTINGS(it->s, lent_bins),
+                                                              lend_sealed(&found, sizeof expected));
+    memcpy(it->bounds, start_of(&found), sizeof expected);
+    if (answer != 0 || bounds_in(it->manner, &plain_pyramid)(SETTINGS(it->s, it->s.bins), expected) != 0)
         return 0;
     list->accepted++;
-    list->sum += bounds[0];
-    list->most_bound = bounds[0] > list->most_bound ? bounds[0] : list->most_bound;
-    return kept(&bins) && guards_kept(&found) && memcmp(bounds, expected, sizeof expected) == 0;
+    list->closed += it->manner == CLOSED_LOOP;
+    list->sum += it->bounds[0];
+    list->most_bound = it->bounds[0] > list->most_bound ? it->bounds[0] : list->most_bound;
+    return kept(&bins) && guards_kept(&found) && memcmp(it->bounds, expected, sizeof expected) == 0;
+}
+
+static int64_t largest_error(const int32_t *rebuilt, const int32_t *averages, int64_t nodes)
+{
+    int64_t most = 0;
+    for (int64_t node = 0; node < nodes; node++) {
+        int64_t error = llabs((int64_t)rebuilt[node] - averages[node]);
+        most = error > most ? error : most;
+    }
+    return most;
+}
+
+int rebuilt_right(struct seen *seen, const struct coded *it, const int32_t *rebuilt)
+{
+    int64_t at = 0, most = 0;
+    for (int level = it->s.depth; level >= 0; level--) {
+        int64_t nodes = plain_side(it->s.columns, level) * plain_side(it->s.rows, level);
+        most = largest_error(rebuilt + at, it->averages + at, nodes);
+        if (most > it->bounds[level])
+            return 0;
+        at += nodes;
+    }
+    if (it->manner == OPEN_LOOP)
+        return 1;
+    seen->reached += most > 0 && most == it->bounds[0];
+    return memcmp(rebuilt, it->values, (size_t)at * sizeof *rebuilt) == 0;
 }
 
 int close_enough(struct seen *seen, const struct list *list, const uint8_t *first, const uint8_t *last, size_t pixels)
@@ -58,6 +104,16 @@ int close_enough(struct seen *seen, const struct list *list, const uint8_t *firs
     seen->narrow += list->accepted >= 2 && list->sum < 255;
     seen->beyond += most > list->most_bound;
     return most <= list->sum;
+}
+
+static void count_manners(struct seen *seen, const struct list *list)
+{
+    int all_open = list->closed == 0, all_closed = list->closed == list->accepted;
+    if (list->accepted < 2)
+        return;
+    seen->all_open += (uint64_t)all_open;
+    seen->all_closed += (uint64_t)all_closed;
+    seen->mixed += !all_open && !all_closed;
 }
 
 typedef int run_list(struct seen *seen, struct list *list);
@@ -74,6 +130,7 @@ static void run_one(struct seen *seen, run_list *run, uint32_t least_side, uint3
     seen->lists++;
     seen->empty += list.steps == 0;
     int passed = run(seen, &list);
+    count_manners(seen, &list);
     seen->passed += (uint64_t)passed;
     if (!passed && seen->failed++ < SHOWN_FAILURES)
         fprintf(stderr, "list %" PRIu64 ": %u by %u, %u steps: failed\n", seen->lists, list.columns, list.rows,
@@ -104,6 +161,10 @@ static void demand_kinds(struct seen *seen, const char *const calls[4])
     demand(seen, "lists of six, all accepted", seen->all_accepted, lists / 100);
     demand(seen, "two or more, sum below 255", seen->narrow, lists / 4);
     demand(seen, "error above every single bound", seen->beyond, lists / 1000 + 1);
+    demand(seen, "two or more, all open-loop", seen->all_open, lists / 20);
+    demand(seen, "two or more, all closed-loop", seen->all_closed, lists / 20);
+    demand(seen, "two or more, of both manners", seen->mixed, lists / 4);
+    demand(seen, "closed-loop bounds reached", seen->reached, lists / 4);
 }
 
 int main(int words, char **word)

@@ -15,6 +15,8 @@ struct seen {
     uint64_t refused_call[4];                               /* which call of a generation or a copy was refused */
     uint64_t narrow;                                        /* lists of two and more whose sum is below 255 */
     uint64_t beyond;                                        /* lists whose error is above each bound in the sum */
+    uint64_t all_open, all_closed, mixed;                   /* lists of two and more, by manners of coding */
+    uint64_t reached; /* rebuildings whose error is the closed-loop bound of level 0, above 0 */
     uint64_t passed, failed;
 };
 
@@ -22,8 +24,17 @@ struct seen {
 struct list {
     uint16_t columns, rows;
     uint32_t most_bin;
-    uint32_t steps, accepted;
-    int64_t sum, most_bound; /* of the bounds of level 0 that count */
+    uint32_t steps, accepted, closed; /* closed: accepted and coded closed-loop */
+    int64_t sum, most_bound;          /* of the bounds of level 0 that count */
+};
+
+/* What an accepted coding left, for its rebuilding to be held to. */
+struct coded {
+    enum manner manner;
+    struct settings s;
+    uint16_t bounds[LEPSARVU_SLOTS];
+    int32_t averages[LEPSARVU_MOST_NODES];
+    int32_t values[LEPSARVU_MOST_NODES]; /* of closed-loop coding: those that it says will be rebuilt */
 };
 
 extern struct seeded draw;
@@ -41,8 +52,20 @@ size_t step_length(int careless, size_t right);
 /* Lends so many elements that hold anything. */
 void *lend_sealed(struct lent *it, size_t bytes);
 
-/* The library's bounds, which must be those of plain C; adds that of level 0 to the list's sum. */
-int take_bounds(struct list *list, const struct settings *s, uint16_t bounds[LEPSARVU_SLOTS]);
+/* Either manner of coding, as likely as the other. */
+enum manner draw_manner(void);
+
+/* Takes over what an accepted coding of the picture left in its work buffer. The averages, which closed-loop coding
+ * does not leave, are then those of plain C, which must accept the coding too. */
+int take_coded(struct coded *it, enum manner manner, const struct settings *s, const uint8_t *picture,
+               const int32_t *left);
+
+/* The library's bounds of that coding, which must be those of plain C; adds that of level 0 to the list's sum. */
+int take_bounds(struct list *list, struct coded *it);
+
+/* Whether every rebuilt value is within its level's bound of its average and, after closed-loop coding, what the coder
+ * left. */
+int rebuilt_right(struct seen *seen, const struct coded *it, const int32_t *rebuilt);
 
 /* Whether two pictures differ nowhere by more than the list's sum; counts what it sees. */
 int close_enough(struct seen *seen, const struct list *list, const uint8_t *first, const uint8_t *last, size_t pixels);

@@ -3,12 +3,14 @@
  * at random, and a change is kept unless it makes the error smaller. The search is done with plain C; the picture that
  * it finds is coded and rebuilt by the library. At depth 1 the bound is reached, so neither its multiplier nor its
  * rounding can be other than they are; at more depth kernel 6 stays below it, since the errors of a level can't have
- * the worst size and sign at all of its nodes. */
+ * the worst size and sign at all of its nodes. Closed-loop the bound of level 0 is reached at every depth, whatever the
+ * levels above it lost, and pictures of noise are enough to find that. */
 #include <stdlib.h>
 
 #include "guarded.h"
 
 enum { SEED = 1983, CHANGES = 20000, STARTS = 100, FEW_STARTS = 10, MOST_PIXELS = 81, MOST_NODES = 200, WIDEST = 255 };
+enum { NOISES = 20000 };
 
 /* Which value of pixel (0, 0) is meant: the rebuilt one, or after the clamp the shown one. */
 enum value { REBUILT, SHOWN };
@@ -124,29 +126,39 @@ static int64_t search(const struct aim *aim, uint8_t *best)
     return most;
 }
 
-static void demand(const struct aim *aim, const char *what, int passed)
+static void demand(const struct settings *s, const char *what, int passed)
 {
     if (!passed)
-        fprintf(stderr, "%u by %u, depth %u, kernel %u, bins %u, %u: %s\n", aim->s.columns, aim->s.rows, aim->s.depth,
-                aim->s.kernel, aim->s.bins[0], aim->s.bins[1], what);
+        fprintf(stderr, "%u by %u, depth %u, kernel %u, bins %u, %u: %s\n", s->columns, s->rows, s->depth, s->kernel,
+                s->bins[0], s->bins[1], what);
     tally.passed += (uint64_t)passed;
     tally.failed += (uint64_t)!passed;
+}
+
+/* The library's bound of level 0, and in the job's things what it rebuilds of the picture. */
+static uint16_t rebuild_with_library(enum manner manner, const struct settings *s, const uint8_t *picture)
+{
+    enum function bounds = manner == CLOSED_LOOP ? CLOSED_LOOP_BOUNDS : LEVEL_BOUNDS;
+    enum function coder = manner == CLOSED_LOOP ? CLOSED_LOOP_CODING : CODING;
+    uint16_t bound;
+    provide_settings(&draw, *s);
+    provide_copy(PICTURE, picture, pixels_of(s));
+    provide(&draw, LEVELS, nodes_of(s));
+    provide(&draw, WORK, nodes_of(s));
+    demand(s, "the bounds", call_between_guards(bounds, &draw) && job.answer == 0);
+    demand(s, "the coding", call_between_guards(coder, &draw) && job.answer == 0);
+    provide(&draw, WORK, nodes_of(s));
+    demand(s, "the rebuilding", call_between_guards(REBUILDING, &draw) && job.answer == 0);
+    memcpy(&bound, job.held[BOUNDS], sizeof bound);
+    return bound;
 }
 
 /* The library's error and bound for the picture. */
 static int64_t library_error(const struct aim *aim, const uint8_t *picture, uint16_t *bound)
 {
-    size_t nodes = nodes_of(&aim->s), pixels = pixels_of(&aim->s);
     int32_t rebuilt;
-    provide_settings(&draw, aim->s);
-    provide_copy(PICTURE, picture, pixels);
-    provide(&draw, LEVELS, nodes);
-    provide(&draw, WORK, nodes);
-    demand(aim, "the bounds", call_between_guards(LEVEL_BOUNDS, &draw) && job.answer == 0);
-    demand(aim, "the coding", call_between_guards(CODING, &draw) && job.answer == 0);
-    demand(aim, "the rebuilding", call_between_guards(REBUILDING, &draw) && job.answer == 0);
-    memcpy(bound, job.held[BOUNDS], sizeof *bound);
-    memcpy(&rebuilt, job.held[WORK] + (nodes - pixels) * sizeof rebuilt, sizeof rebuilt);
+    *bound = rebuild_with_library(OPEN_LOOP, &aim->s, picture);
+    memcpy(&rebuilt, job.held[WORK] + (nodes_of(&aim->s) - pixels_of(&aim->s)) * sizeof rebuilt, sizeof rebuilt);
     return aim->sign * ((aim->value == SHOWN ? job.held[PICTURE][0] : rebuilt) - picture[0]);
 }
 
@@ -162,19 +174,90 @@ static void pursue(const struct aim *aim)
     printf(": %s off by %" PRId64 ", bound %u; %d hundredths would give %" PRId64 "\n",
            aim->value == SHOWN ? "shown" : "rebuilt", aim->sign * error, bound, aim->s.kernel == 6 ? 200 : 101,
            bound_with(&aim->s, aim->s.kernel == 6 ? 200 : 101));
-    demand(aim, "the library's error is not that of plain C", error == found);
-    demand(aim, "the error that must be found was not", error >= aim->error);
-    demand(aim, "the error is above the bound", error <= bound);
+    demand(&aim->s, "the library's error is not that of plain C", error == found);
+    demand(&aim->s, "the error that must be found was not", error >= aim->error);
+    demand(&aim->s, "the error is above the bound", error <= bound);
     if (aim->demand != BELOW)
-        demand(aim, "the bound is above the largest error", error == bound);
+        demand(&aim->s, "the bound is above the largest error", error == bound);
     if (aim->demand == SHARP)
-        demand(aim, "another multiplier would do",
+        demand(&aim->s, "another multiplier would do",
                bound_with(&aim->s, hundredths - 1) < error && error < bound_with(&aim->s, hundredths + 1));
+}
+
+/* The smallest and the largest of rebuilt less coded, over the pixels of level 0 before the clamp. */
+struct errors {
+    int64_t least, most;
+};
+
+static struct errors errors_of(const struct settings *s, const uint8_t *picture, const int32_t *work)
+{
+    size_t pixels = pixels_of(s);
+    const int32_t *rebuilt = work + nodes_of(s) - pixels;
+    struct errors it = {INT64_MAX, INT64_MIN};
+    for (size_t at = 0; at < pixels; at++) {
+        int64_t error = (int64_t)rebuilt[at] - picture[at];
+        it.least = error < it.least ? error : it.least;
+        it.most = error > it.most ? error : it.most;
+    }
+    return it;
+}
+
+/* A picture of noise, and its errors with plain C. */
+static struct errors noise_errors(const struct settings *s, uint8_t *picture)
+{
+    static int16_t levels[LEPSARVU_MOST_NODES];
+    static int32_t work[LEPSARVU_MOST_NODES];
+    size_t nodes = nodes_of(s), pixels = pixels_of(s);
+    for (size_t at = 0; at < pixels; at++)
+        picture[at] = (uint8_t)below(&draw, 256);
+    if (plain_pyramid.closed_loop_coding(SETTINGS(*s, s->bins), picture, pixels, levels, nodes, work, nodes) != 0)
+        abort();
+    return errors_of(s, picture, work);
+}
+
+/* Closed-loop an error is at least minus half the bin, rounded down, and at most half of one less than the bin. Noise
+ * that reaches one of the two is looked for, and given to the library. Returns that one. */
+static int64_t reach_closed(const struct settings *s, int sign)
+{
+    static uint8_t picture[LEPSARVU_MOST_PIXELS];
+    int64_t least = -(s->bins[0] / 2), most = (s->bins[0] - 1) / 2;
+    struct errors errors = noise_errors(s, picture);
+    for (int noise = 1; noise < NOISES && (sign < 0 ? errors.least > least : errors.most < most); noise++)
+        errors = noise_errors(s, picture);
+    uint16_t bound = rebuild_with_library(CLOSED_LOOP, s, picture);
+    struct errors found = errors_of(s, picture, (const int32_t *)(const void *)job.held[WORK]);
+    demand(s, "the library's errors are not those of plain C",
+           found.least == errors.least && found.most == errors.most);
+    demand(s, "an error is outside of half the bin", found.least >= least && found.most <= most);
+    demand(s, "half the bin was not reached", sign < 0 ? found.least == least : found.most == most);
+    demand(s, "the bound is not half the bin", bound == -least);
+    return sign < 0 ? found.least : found.most;
+}
+
+/* Every depth, at the smallest size that has it, below levels of the widest bins. */
+static void reach_all_closed(uint16_t kernel, uint16_t bin)
+{
+    struct errors narrowest = {INT64_MIN, INT64_MAX};
+    for (uint16_t depth = 0; depth <= 6; depth++) {
+        uint16_t side = (uint16_t)((1 << depth) + 1);
+        struct settings s = {side, side, depth, kernel, {bin}};
+        for (int level = 1; level <= depth; level++)
+            s.bins[level] = WIDEST;
+        int64_t least = reach_closed(&s, -1), most = reach_closed(&s, 1);
+        narrowest.least = least > narrowest.least ? least : narrowest.least;
+        narrowest.most = most < narrowest.most ? most : narrowest.most;
+    }
+    printf("closed-loop, kernel %u, bin %u below bins of %d: at every depth rebuilt off by %" PRId64 " and by %" PRId64
+           "\n", kernel, bin, WIDEST, narrowest.least, narrowest.most);
 }
 
 int main(void)
 {
+    static const uint16_t BINS[] = {1, 2, 3, 15, 254, 255};
     for (size_t at = 0; at < sizeof AIMS / sizeof *AIMS; at++)
         pursue(&AIMS[at]);
+    for (uint16_t kernel = 3; kernel <= 6; kernel++)
+        for (size_t at = 0; at < sizeof BINS / sizeof *BINS; at++)
+            reach_all_closed(kernel, BINS[at]);
     return finish(&tally);
 }

@@ -1,15 +1,9 @@
 /* Coding, rebuilding, bounds, deepest depth and number of nodes in plain C, written from document 01, P1 of document 02
- * and Burt and Adelson (1983) alone. Nothing here is made fast: every rule is written the way the papers print it. */
-#include "plain.h"
+ * and Burt and Adelson (1983) alone. Nothing here is made fast: every rule is written the way the papers print it.
+ * Closed-loop coding and its bounds are in plain_closed.c. */
+#include "plain_steps.h"
 
-enum { SLOTS = 7, MOST_DEPTH = 6, LEAST_SIDE = 2, MOST_SIDE = 129, SHARE = 400 };
-
-/* One level: a value for each node, at[row][column]. */
-struct plain_level {
-    int64_t columns;
-    int64_t rows;
-    int64_t at[MOST_SIDE][MOST_SIDE];
-};
+enum { MOST_DEPTH = 6, LEAST_SIDE = 2, SHARE = 400 };
 
 /* Slot l for level l: the averages g (coding) or the unclamped values r (rebuilding). */
 static struct plain_level pyramid[SLOTS];
@@ -85,8 +79,8 @@ int plain_value_ok(int64_t index, int64_t bin)
 }
 
 /* Refusals 5 (picture not C x R), 6 (level buffer not T) and 7 (work buffer below T), in this order. */
-static uint16_t lengths_refusal(int64_t columns, int64_t rows, int64_t depth, size_t picture_length,
-                                size_t levels_length, size_t work_length)
+uint16_t plain_lengths_refusal(int64_t columns, int64_t rows, int64_t depth, size_t picture_length,
+                               size_t levels_length, size_t work_length)
 {
     size_t total = (size_t)plain_total(columns, rows, depth);
     if (picture_length != (size_t)(columns * rows))
@@ -156,22 +150,35 @@ static int64_t expand_node(const struct plain_level *above, int64_t kernel, int6
 }
 
 /* What coding takes from a node and rebuilding adds to it: EXPAND of the next level up; 0 at the top. */
-static int64_t predicted(int64_t level, int64_t depth, int64_t kernel, int64_t i, int64_t j)
+int64_t plain_predicted(const struct plain_level *of, int64_t level, int64_t depth, int64_t kernel, int64_t i,
+                        int64_t j)
 {
-    return level == depth ? 0 : expand_node(&pyramid[level + 1], kernel, i, j);
+    return level == depth ? 0 : expand_node(&of[level + 1], kernel, i, j);
 }
 
 /* Settings: the columns and rows of every level. */
-static void size_levels(int64_t columns, int64_t rows, int64_t depth)
+void plain_size_levels(struct plain_level *of, int64_t columns, int64_t rows, int64_t depth)
 {
     for (int64_t level = 0; level <= depth; level++) {
-        pyramid[level].columns = plain_side(columns, level);
-        pyramid[level].rows = plain_side(rows, level);
+        of[level].columns = plain_side(columns, level);
+        of[level].rows = plain_side(rows, level);
     }
 }
 
+/* Coding: g0 is the picture, each next g is REDUCE of the last. */
+void plain_average_levels(struct plain_level *of, int64_t depth, int64_t kernel, const uint8_t *picture)
+{
+    for (int64_t j = 0; j < of[0].rows; j++)
+        for (int64_t i = 0; i < of[0].columns; i++)
+            of[0].at[j][i] = picture[j * of[0].columns + i];
+    for (int64_t level = 1; level <= depth; level++)
+        for (int64_t j = 0; j < of[level].rows; j++)
+            for (int64_t i = 0; i < of[level].columns; i++)
+                of[level].at[j][i] = reduce_node(&of[level - 1], kernel, i, j);
+}
+
 /* Bin rule: the only whole number m with (2m - 1)n < 2L <= (2m + 1)n. */
-static int64_t index_of(int64_t value, int64_t bin)
+int64_t plain_index_of(int64_t value, int64_t bin)
 {
     int64_t m = 0;
     while (2 * value > (2 * m + 1) * bin)
@@ -181,31 +188,25 @@ static int64_t index_of(int64_t value, int64_t bin)
     return m;
 }
 
-/* Coding: g0 is the picture, each next g is REDUCE of the last; L is g less EXPAND of the next g up, at the top g
- * itself; each L becomes its index. Buffers: level N first, level 0 last, row after row; work gets g. */
+/* Coding: L is g less EXPAND of the next g up, at the top g itself; each L becomes its index. Buffers: level N first,
+ * level 0 last, row after row; work gets g. */
 static uint16_t coding(uint16_t columns, uint16_t rows, uint16_t depth, uint16_t kernel, const uint16_t bins[7],
                        const uint8_t *picture, size_t picture_length, int16_t *levels, size_t levels_length,
                        int32_t *work, size_t work_length)
 {
     uint16_t refusal = plain_settings_refusal(columns, rows, depth, kernel, bins);
     if (refusal == 0)
-        refusal = lengths_refusal(columns, rows, depth, picture_length, levels_length, work_length);
+        refusal = plain_lengths_refusal(columns, rows, depth, picture_length, levels_length, work_length);
     if (refusal != 0)
         return refusal;
-    size_levels(columns, rows, depth);
-    for (int64_t j = 0; j < rows; j++)
-        for (int64_t i = 0; i < columns; i++)
-            pyramid[0].at[j][i] = picture[j * columns + i];
-    for (int64_t level = 1; level <= depth; level++)
-        for (int64_t j = 0; j < pyramid[level].rows; j++)
-            for (int64_t i = 0; i < pyramid[level].columns; i++)
-                pyramid[level].at[j][i] = reduce_node(&pyramid[level - 1], kernel, i, j);
+    plain_size_levels(pyramid, columns, rows, depth);
+    plain_average_levels(pyramid, depth, kernel, picture);
     int64_t place = 0;
     for (int64_t level = depth; level >= 0; level--)
         for (int64_t j = 0; j < pyramid[level].rows; j++)
             for (int64_t i = 0; i < pyramid[level].columns; i++) {
-                int64_t difference = pyramid[level].at[j][i] - predicted(level, depth, kernel, i, j);
-                levels[place] = (int16_t)index_of(difference, bins[level]);
+                int64_t difference = pyramid[level].at[j][i] - plain_predicted(pyramid, level, depth, kernel, i, j);
+                levels[place] = (int16_t)plain_index_of(difference, bins[level]);
                 work[place] = (int32_t)pyramid[level].at[j][i];
                 place++;
             }
@@ -241,18 +242,18 @@ static uint16_t rebuilding(uint16_t columns, uint16_t rows, uint16_t depth, uint
 {
     uint16_t refusal = plain_settings_refusal(columns, rows, depth, kernel, bins);
     if (refusal == 0)
-        refusal = lengths_refusal(columns, rows, depth, picture_length, levels_length, work_length);
+        refusal = plain_lengths_refusal(columns, rows, depth, picture_length, levels_length, work_length);
     if (refusal == 0)
         refusal = values_refusal(columns, rows, depth, bins, levels);
     if (refusal != 0)
         return refusal;
-    size_levels(columns, rows, depth);
+    plain_size_levels(pyramid, columns, rows, depth);
     int64_t place = 0;
     for (int64_t level = depth; level >= 0; level--)
         for (int64_t j = 0; j < pyramid[level].rows; j++)
             for (int64_t i = 0; i < pyramid[level].columns; i++) {
                 int64_t value = (int64_t)levels[place] * bins[level];
-                pyramid[level].at[j][i] = value + predicted(level, depth, kernel, i, j);
+                pyramid[level].at[j][i] = value + plain_predicted(pyramid, level, depth, kernel, i, j);
                 work[place] = (int32_t)pyramid[level].at[j][i];
                 place++;
             }
@@ -301,4 +302,7 @@ static uint16_t total_nodes(uint16_t columns, uint16_t rows, uint16_t depth, uin
     return refusal;
 }
 
-const struct pyramid_calls plain_pyramid = {coding, rebuilding, level_bounds, deepest_depth, total_nodes};
+const struct pyramid_calls plain_pyramid = {
+    coding,        plain_closed_loop_coding, rebuilding, level_bounds, plain_closed_loop_bounds,
+    deepest_depth, total_nodes,
+};

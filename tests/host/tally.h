@@ -7,8 +7,10 @@
 
 enum function {
     CODING,
+    CLOSED_LOOP_CODING,
     REBUILDING,
     LEVEL_BOUNDS,
+    CLOSED_LOOP_BOUNDS,
     DEEPEST_DEPTH,
     TOTAL_NODES,
     FILE_SIZE,
@@ -30,11 +32,11 @@ struct tally {
     uint64_t passed, failed;
 };
 
-static const char *const FUNCTION_NAMES[FUNCTIONS] = {"coding",      "rebuilding", "level_bounds",
-                                                      "deepest_depth", "total_nodes", "file_size",
-                                                      "write_file",  "read_file",  "check_file",
-                                                      "pgm_size",    "write_pgm",  "read_pgm",
-                                                      "check_pgm"};
+static const char *const FUNCTION_NAMES[FUNCTIONS] = {
+    "coding",        "closed_loop_coding", "rebuilding", "level_bounds", "closed_loop_bounds",
+    "deepest_depth", "total_nodes",        "file_size",  "write_file",   "read_file",
+    "check_file",    "pgm_size",           "write_pgm",  "read_pgm",     "check_pgm",
+};
 
 static inline void count(struct tally *it, enum function function, uint16_t answer, int passed)
 {
@@ -57,7 +59,7 @@ static inline void print_answers(const struct tally *it)
             total += it->answers[function][answer];
         if (total == 0)
             continue;
-        printf("%-13s %9" PRIu64 " compared;", FUNCTION_NAMES[function], total);
+        printf("%-18s %9" PRIu64 " compared;", FUNCTION_NAMES[function], total);
         for (int answer = 0; answer < ANSWERS; answer++)
             if (it->answers[function][answer] != 0)
                 printf(" %d: %" PRIu64, answer, it->answers[function][answer]);
@@ -77,8 +79,10 @@ static inline void demand_answers(struct tally *it)
 {
     static const uint32_t LISTED[FUNCTIONS] = {
         [CODING] = OF_SETTINGS | BIT(5) | BIT(6) | BIT(7),
+        [CLOSED_LOOP_CODING] = OF_SETTINGS | BIT(5) | BIT(6) | BIT(7),
         [REBUILDING] = OF_SETTINGS | BIT(5) | BIT(6) | BIT(7) | BIT(11),
         [LEVEL_BOUNDS] = OF_SETTINGS,
+        [CLOSED_LOOP_BOUNDS] = OF_SETTINGS,
         [DEEPEST_DEPTH] = BIT(0) | BIT(1),
         [TOTAL_NODES] = OF_SETTINGS,
         [FILE_SIZE] = OF_SETTINGS,

@@ -1,4 +1,5 @@
-/* Holds the library to the answers of the Python reference, on standard input: vectors pyramid|levels|files|calls|pgm
+/* Holds the library to the answers of the Python reference, on standard input:
+ * vectors pyramid|closed|levels|files|calls|pgm
  * tests/reference/README.md gives the formats. */
 #include "guarded.h"
 #include "vectors.h"
@@ -26,21 +27,15 @@ static int holds_indices(size_t many)
     return same;
 }
 
-static int holds_averages(size_t many)
+/* Of the work buffer: averages, and what a closed-loop coding left, have two bytes, other rebuilt values four. */
+static int holds_work(size_t many, int bytes)
 {
     const int32_t *found = (const void *)job.held[WORK];
     int same = 1;
-    for (size_t place = 0; place < many; place++)
-        same &= found[place] == (int16_t)(uint16_t)take_number(2);
-    return same;
-}
-
-static int holds_values(size_t many)
-{
-    const int32_t *found = (const void *)job.held[WORK];
-    int same = 1;
-    for (size_t place = 0; place < many; place++)
-        same &= found[place] == (int32_t)take_number(4);
+    for (size_t place = 0; place < many; place++) {
+        uint32_t number = take_number(bytes);
+        same &= found[place] == (bytes == 2 ? (int16_t)(uint16_t)number : (int32_t)number);
+    }
     return same;
 }
 
@@ -70,7 +65,7 @@ static void rebuild_case(int given)
     uint16_t expected = given ? (uint16_t)take_number(2) : 0;
     passed &= job.answer == expected;
     if (expected == 0) {
-        passed &= holds_values(nodes);
+        passed &= holds_work(nodes, 4);
         passed &= holds(PICTURE, take(pixels), pixels);
     }
     count(&tally, REBUILDING, job.answer, passed);
@@ -87,12 +82,41 @@ static void pyramid_case(void)
     provide(&draw, WORK, nodes);
     passed = call(CODING) && job.answer == 0;
     passed &= holds_indices(nodes);
-    passed &= holds_averages(nodes);
+    passed &= holds_work(nodes, 2);
     count(&tally, CODING, job.answer, passed);
     rebuild_case(0);
     passed = call(LEVEL_BOUNDS) && job.answer == 0;
     passed &= holds_bounds();
     count(&tally, LEVEL_BOUNDS, job.answer, passed);
+}
+
+/* The rebuilding of what was coded leaves what the coder left, and the next picture. */
+static void rebuild_closed(size_t nodes, size_t pixels)
+{
+    static int32_t left[LEPSARVU_MOST_NODES];
+    memcpy(left, job.held[WORK], nodes * sizeof *left);
+    provide(&draw, PICTURE, pixels);
+    provide(&draw, WORK, nodes);
+    int passed = call(REBUILDING) && job.answer == 0 && holds(WORK, left, nodes * sizeof *left);
+    const uint8_t *shown = take(pixels);
+    count(&tally, REBUILDING, job.answer, passed && holds(PICTURE, shown, pixels));
+}
+
+static void closed_case(void)
+{
+    provide_settings(&draw, take_settings());
+    size_t nodes = nodes_of(&job.s), pixels = pixels_of(&job.s);
+    provide_copy(PICTURE, take(pixels), pixels);
+    provide(&draw, LEVELS, nodes);
+    provide(&draw, WORK, nodes);
+    int passed = call(CLOSED_LOOP_CODING) && job.answer == 0;
+    passed &= holds_indices(nodes);
+    passed &= holds_work(nodes, 2);
+    count(&tally, CLOSED_LOOP_CODING, job.answer, passed);
+    rebuild_closed(nodes, pixels);
+    passed = call(CLOSED_LOOP_BOUNDS) && job.answer == 0;
+    passed &= holds_bounds();
+    count(&tally, CLOSED_LOOP_BOUNDS, job.answer, passed);
 }
 
 static void levels_case(void)
@@ -161,8 +185,8 @@ int main(int words, char **word)
     static const struct {
         const char *kind;
         void (*check)(void);
-    } KINDS[] = {{"pyramid", pyramid_case}, {"levels", levels_case}, {"files", files_case}, {"calls", calls_case},
-                 {"pgm", pgm_case}};
+    } KINDS[] = {{"pyramid", pyramid_case}, {"closed", closed_case}, {"levels", levels_case}, {"files", files_case},
+                 {"calls", calls_case},     {"pgm", pgm_case}};
     for (size_t at = 0; words == 2 && at < sizeof KINDS / sizeof *KINDS; at++)
         if (strcmp(word[1], KINDS[at].kind) == 0) {
             while (next_case()) {
@@ -173,6 +197,6 @@ int main(int words, char **word)
             print_answers(&tally);
             return finish(&tally);
         }
-    fprintf(stderr, "usage: vectors pyramid|levels|files|calls|pgm\n");
+    fprintf(stderr, "usage: vectors pyramid|closed|levels|files|calls|pgm\n");
     return 2;
 }

@@ -41,7 +41,9 @@ void calls_case(void)
     answers(REBUILDING, answer[1]);
     answers_with(WRITE_FILE, answer[2], SIZE, &bytes, sizeof bytes);
     answers(CODING, answer[0]);
+    answers(CLOSED_LOOP_CODING, answer[0]); /* document 02: the same numbers, in the same order */
     answers(LEVEL_BOUNDS, answer[3]);
+    answers(CLOSED_LOOP_BOUNDS, answer[3]);
     answers_with(DEEPEST_DEPTH, answer[4], NUMBER, &answer[5], sizeof answer[5]);
     answers_with(TOTAL_NODES, answer[3], NUMBER, &answer[6], sizeof answer[6]);
     answers_with(FILE_SIZE, answer[3], SIZE, &bytes, sizeof bytes);
