@@ -100,7 +100,7 @@ module _ (s : Settings) (law : Lawful s) (manner : Manner) (g : ℕ → Level) (
   difference_held zero e i j = +ℤ_idr (g l i j) ∙ sym (difference_top s manner g l (omega arith) i j)
   difference_held (suc d) e i j = sym (difference_below s manner g l (omega arith) i j)
 
-  pub index_held : EachNode s l (λ i j. index_at s h l i j ≡ index s manner g l i j)
+  index_held : EachNode s l (λ i j. index_at s h l i j ≡ index s manner g l i j)
   unfolding index_at index
   index_held i j hi hj = ap (index_of s l) (rw (own i j hi hj, prediction_held i j hi hj) (difference_held (s.depth - l) (omega arith) i j))
 

@@ -92,16 +92,22 @@ pub fn level_size(s: Settings, level: u16) -> Result<Dimensions, Refusal>
 pub fn level_bounds(s: Settings) -> Result<[u16; 7], Refusal>
     ensures { result ≡ outcome (bounds_answer s OpenLoop).refusal (bounds_answer s OpenLoop).levels }
 {
-    let lawful = LawfulSettings::new(s)?;
-    Ok(bounding::bound_slots(lawful, Manner::OpenLoop))
+    bounds_of(s, Manner::OpenLoop)
 }
 
 // The same of levels that the closed-loop coder made. Refused: 1, 13, 14, 15, 2, 3.
 pub fn closed_loop_bounds(s: Settings) -> Result<[u16; 7], Refusal>
     ensures { result ≡ outcome (bounds_answer s ClosedLoop).refusal (bounds_answer s ClosedLoop).levels }
 {
+    bounds_of(s, Manner::ClosedLoop)
+}
+
+// The bounds of levels that were coded in a manner.
+fn bounds_of(s: Settings, manner: Manner) -> Result<[u16; 7], Refusal>
+    ensures { result ≡ outcome (bounds_answer s manner).refusal (bounds_answer s manner).levels }
+{
     let lawful = LawfulSettings::new(s)?;
-    Ok(bounding::bound_slots(lawful, Manner::ClosedLoop))
+    Ok(bounding::bound_slots(lawful, manner))
 }
 
 // Kept: columns and rows one by one, here and in what tests them: they are asked about before they are known to be the dimensions of a picture, of

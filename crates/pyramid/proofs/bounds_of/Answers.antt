@@ -1,9 +1,9 @@
--- `pyramid::level_bounds` meets its contract: bounds are made of settings that are accepted. Assumes nothing.
+-- `pyramid::bounds_of` meets its contract: bounds are made of settings that are accepted. Assumes nothing.
 use mathlib.Core.Path.{refl, sym}
 use Rattle.refusals.proofs.Outcomes.{accepts, none, value-is, passed_on}
 use Rattle.pyramid.specs.Definitions.Answers.{bounds_answer}
 use Rattle.pyramid.proofs.Refusals.{outcome_left}
-use Rattle.pyramid.proofs.level_bounds.Goals as goal
+use Rattle.pyramid.proofs.bounds_of.Goals as goal
 
 pub returns-in_err-lawful : goal.returns-in_err-lawful
 unfolding bounds_answer
