@@ -10,7 +10,7 @@ use test_support::fillers::{fill, first_changed, unlawful_index, work_filler};
 use test_support::reading::rest;
 use test_support::reporting::of_call;
 
-// The call that codes in a manner, and what it leaves in the work buffer.
+// The call that codes in a manner.
 fn call_of(manner: Manner) -> Call {
     match manner {
         Manner::OpenLoop => Call::Coding,
@@ -18,6 +18,7 @@ fn call_of(manner: Manner) -> Call {
     }
 }
 
+// What it leaves in the work buffer.
 fn left_by(manner: Manner) -> Part {
     match manner {
         Manner::OpenLoop => Part::Average,
@@ -25,6 +26,7 @@ fn left_by(manner: Manner) -> Part {
     }
 }
 
+// The call itself.
 fn code(
     z: Shape,
     manner: Manner,
