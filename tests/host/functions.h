@@ -5,21 +5,17 @@
 #include "../../include/lepsarvu.h"
 
 /* Both codings are called alike, and both bounds. */
-typedef uint16_t coding_call(uint16_t columns, uint16_t rows, uint16_t depth, uint16_t kernel, const uint16_t bins[7],
-                             const uint8_t *picture, size_t picture_length, int16_t *levels, size_t levels_length,
-                             int32_t *work, size_t work_length);
-typedef uint16_t bounds_call(uint16_t columns, uint16_t rows, uint16_t depth, uint16_t kernel, const uint16_t bins[7],
-                             uint16_t bounds[7]);
+typedef uint16_t coding_call(const lepsarvu_settings *settings, const uint8_t *picture, size_t picture_length,
+                             int16_t *levels, size_t levels_length, int32_t *work, size_t work_length);
+typedef uint16_t bounds_call(const lepsarvu_settings *settings, uint16_t bounds[7]);
 
 struct pyramid_calls {
     coding_call *coding, *closed_loop_coding;
-    uint16_t (*rebuilding)(uint16_t columns, uint16_t rows, uint16_t depth, uint16_t kernel, const uint16_t bins[7],
-                           const int16_t *levels, size_t levels_length, uint8_t *picture, size_t picture_length,
-                           int32_t *work, size_t work_length);
+    uint16_t (*rebuilding)(const lepsarvu_settings *settings, const int16_t *levels, size_t levels_length,
+                           uint8_t *picture, size_t picture_length, int32_t *work, size_t work_length);
     bounds_call *level_bounds, *closed_loop_bounds;
     uint16_t (*deepest_depth)(uint16_t columns, uint16_t rows, uint16_t *depth);
-    uint16_t (*total_nodes)(uint16_t columns, uint16_t rows, uint16_t depth, uint16_t kernel,
-                            const uint16_t bins[7], uint16_t *nodes);
+    uint16_t (*total_nodes)(const lepsarvu_settings *settings, uint16_t *nodes);
 };
 
 /* The two manners of coding a picture. */
@@ -36,16 +32,12 @@ static inline bounds_call *bounds_in(enum manner manner, const struct pyramid_ca
 }
 
 struct file_calls {
-    uint16_t (*file_size)(uint16_t columns, uint16_t rows, uint16_t depth, uint16_t kernel, const uint16_t bins[7],
-                          size_t *size);
-    uint16_t (*write_file)(uint16_t columns, uint16_t rows, uint16_t depth, uint16_t kernel, const uint16_t bins[7],
-                           uint8_t drier_kind, uint32_t drier_number, uint8_t press_kind, uint32_t press_number,
-                           const int16_t *levels, size_t levels_length, uint8_t *file, size_t file_length,
-                           size_t *size);
+    uint16_t (*file_size)(const lepsarvu_settings *settings, size_t *size);
+    uint16_t (*write_file)(const lepsarvu_settings *settings, const lepsarvu_note *note, const int16_t *levels,
+                           size_t levels_length, uint8_t *file, size_t file_length, size_t *size);
     uint16_t (*read_file)(const uint8_t *file, size_t file_length, int16_t *levels, size_t levels_length,
-                          uint16_t shape[4], uint16_t bins[7], uint8_t kinds[2], uint32_t numbers[2]);
-    uint16_t (*check_file)(const uint8_t *file, size_t file_length, uint16_t shape[4], uint16_t bins[7],
-                           uint8_t kinds[2], uint32_t numbers[2]);
+                          lepsarvu_settings *settings, lepsarvu_note *note);
+    uint16_t (*check_file)(const uint8_t *file, size_t file_length, lepsarvu_settings *settings, lepsarvu_note *note);
 };
 
 struct pgm_calls {
