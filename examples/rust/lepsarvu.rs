@@ -2,46 +2,36 @@
 //! its number.
 
 mod c {
+    use super::{Note, Settings};
+
     extern "C" {
         pub fn lepsarvu_coding(
-            columns: u16, rows: u16, depth: u16, kernel: u16, bins: *const u16,
-            picture: *const u8, picture_length: usize, levels: *mut i16, levels_length: usize,
-            work: *mut i32, work_length: usize,
+            settings: *const Settings, picture: *const u8, picture_length: usize,
+            levels: *mut i16, levels_length: usize, work: *mut i32, work_length: usize,
         ) -> u16;
         pub fn lepsarvu_closed_loop_coding(
-            columns: u16, rows: u16, depth: u16, kernel: u16, bins: *const u16,
-            picture: *const u8, picture_length: usize, levels: *mut i16, levels_length: usize,
-            work: *mut i32, work_length: usize,
+            settings: *const Settings, picture: *const u8, picture_length: usize,
+            levels: *mut i16, levels_length: usize, work: *mut i32, work_length: usize,
         ) -> u16;
         pub fn lepsarvu_rebuilding(
-            columns: u16, rows: u16, depth: u16, kernel: u16, bins: *const u16,
-            levels: *const i16, levels_length: usize, picture: *mut u8, picture_length: usize,
-            work: *mut i32, work_length: usize,
+            settings: *const Settings, levels: *const i16, levels_length: usize,
+            picture: *mut u8, picture_length: usize, work: *mut i32, work_length: usize,
         ) -> u16;
-        pub fn lepsarvu_level_bounds(
-            columns: u16, rows: u16, depth: u16, kernel: u16, bins: *const u16, bounds: *mut u16,
-        ) -> u16;
-        pub fn lepsarvu_closed_loop_bounds(
-            columns: u16, rows: u16, depth: u16, kernel: u16, bins: *const u16, bounds: *mut u16,
-        ) -> u16;
+        pub fn lepsarvu_level_bounds(settings: *const Settings, bounds: *mut u16) -> u16;
+        pub fn lepsarvu_closed_loop_bounds(settings: *const Settings, bounds: *mut u16) -> u16;
         pub fn lepsarvu_deepest_depth(columns: u16, rows: u16, depth: *mut u16) -> u16;
-        pub fn lepsarvu_total_nodes(
-            columns: u16, rows: u16, depth: u16, kernel: u16, bins: *const u16, nodes: *mut u16,
-        ) -> u16;
-        pub fn lepsarvu_file_size(
-            columns: u16, rows: u16, depth: u16, kernel: u16, bins: *const u16, size: *mut usize,
-        ) -> u16;
+        pub fn lepsarvu_total_nodes(settings: *const Settings, nodes: *mut u16) -> u16;
+        pub fn lepsarvu_file_size(settings: *const Settings, size: *mut usize) -> u16;
         pub fn lepsarvu_write_file(
-            columns: u16, rows: u16, depth: u16, kernel: u16, bins: *const u16,
-            drier_kind: u8, drier_number: u32, press_kind: u8, press_number: u32,
-            levels: *const i16, levels_length: usize, file: *mut u8, file_length: usize, size: *mut usize,
+            settings: *const Settings, note: *const Note, levels: *const i16, levels_length: usize,
+            file: *mut u8, file_length: usize, size: *mut usize,
         ) -> u16;
         pub fn lepsarvu_read_file(
             file: *const u8, file_length: usize, levels: *mut i16, levels_length: usize,
-            shape: *mut u16, bins: *mut u16, kinds: *mut u8, numbers: *mut u32,
+            settings: *mut Settings, note: *mut Note,
         ) -> u16;
         pub fn lepsarvu_check_file(
-            file: *const u8, file_length: usize, shape: *mut u16, bins: *mut u16, kinds: *mut u8, numbers: *mut u32,
+            file: *const u8, file_length: usize, settings: *mut Settings, note: *mut Note,
         ) -> u16;
         pub fn lepsarvu_pgm_size(columns: u16, rows: u16, size: *mut usize) -> u16;
         pub fn lepsarvu_write_pgm(
@@ -62,27 +52,40 @@ pub struct Refused(pub u16);
 
 pub type Answer<T> = Result<T, Refused>;
 
-#[derive(Clone, Copy, Debug, PartialEq)]
+/// Slot l of the bins is of level l. Pixels lie between black and white, both ends allowed.
+#[repr(C)]
+#[derive(Clone, Copy, Debug, Default, PartialEq)]
 pub struct Settings {
     pub columns: u16,
     pub rows: u16,
     pub depth: u16,
     pub kernel: u16,
+    pub black: u16,
+    pub white: u16,
     pub bins: [u16; 7],
 }
 
 /// A probe reading: kind 0, not fitted; 1, a percentage's float bits; 2, a fault code.
-#[derive(Clone, Copy, Debug, PartialEq)]
+#[repr(C)]
+#[derive(Clone, Copy, Debug, Default, PartialEq)]
 pub struct Reading {
-    pub kind: u8,
+    pub kind: u32,
     pub number: u32,
 }
 
-/// What a bale file holds beside the indices; the readings are those before the drier and at the press.
-#[derive(Clone, Copy, Debug, PartialEq)]
+/// The two readings of a bale.
+#[repr(C)]
+#[derive(Clone, Copy, Debug, Default, PartialEq)]
 pub struct Note {
+    pub before_drier: Reading,
+    pub at_press: Reading,
+}
+
+/// What a bale file holds beside the indices.
+#[derive(Clone, Copy, Debug, Default, PartialEq)]
+pub struct Bale {
     pub settings: Settings,
-    pub readings: [Reading; 2],
+    pub note: Note,
 }
 
 fn answer<T>(number: u16, value: T) -> Answer<T> {
@@ -91,12 +94,11 @@ fn answer<T>(number: u16, value: T) -> Answer<T> {
 
 /// Leaves indices in `levels` and averages in `work`.
 pub fn coding(s: &Settings, picture: &[u8], levels: &mut [i16], work: &mut [i32]) -> Answer<()> {
-    // Each pointer comes with the length of its slice, and the borrows keep what is written apart from the rest; so it
-    // is in all calls below.
+    // Each pointer comes with the length of its slice, or points to one of what its type says, and the borrows keep
+    // what is written apart from the rest; so it is in all calls below.
     let number = unsafe {
         c::lepsarvu_coding(
-            s.columns, s.rows, s.depth, s.kernel, s.bins.as_ptr(), picture.as_ptr(), picture.len(),
-            levels.as_mut_ptr(), levels.len(), work.as_mut_ptr(), work.len(),
+            s, picture.as_ptr(), picture.len(), levels.as_mut_ptr(), levels.len(), work.as_mut_ptr(), work.len(),
         )
     };
     answer(number, ())
@@ -106,8 +108,7 @@ pub fn coding(s: &Settings, picture: &[u8], levels: &mut [i16], work: &mut [i32]
 pub fn closed_loop_coding(s: &Settings, picture: &[u8], levels: &mut [i16], work: &mut [i32]) -> Answer<()> {
     let number = unsafe {
         c::lepsarvu_closed_loop_coding(
-            s.columns, s.rows, s.depth, s.kernel, s.bins.as_ptr(), picture.as_ptr(), picture.len(),
-            levels.as_mut_ptr(), levels.len(), work.as_mut_ptr(), work.len(),
+            s, picture.as_ptr(), picture.len(), levels.as_mut_ptr(), levels.len(), work.as_mut_ptr(), work.len(),
         )
     };
     answer(number, ())
@@ -117,8 +118,7 @@ pub fn closed_loop_coding(s: &Settings, picture: &[u8], levels: &mut [i16], work
 pub fn rebuilding(s: &Settings, levels: &[i16], picture: &mut [u8], work: &mut [i32]) -> Answer<()> {
     let number = unsafe {
         c::lepsarvu_rebuilding(
-            s.columns, s.rows, s.depth, s.kernel, s.bins.as_ptr(), levels.as_ptr(), levels.len(),
-            picture.as_mut_ptr(), picture.len(), work.as_mut_ptr(), work.len(),
+            s, levels.as_ptr(), levels.len(), picture.as_mut_ptr(), picture.len(), work.as_mut_ptr(), work.len(),
         )
     };
     answer(number, ())
@@ -127,18 +127,14 @@ pub fn rebuilding(s: &Settings, levels: &[i16], picture: &mut [u8], work: &mut [
 /// How far a rebuilt value of each level can lie from its average, whichever coding the file is of.
 pub fn level_bounds(s: &Settings) -> Answer<[u16; 7]> {
     let mut bounds = [0; 7];
-    let number = unsafe {
-        c::lepsarvu_level_bounds(s.columns, s.rows, s.depth, s.kernel, s.bins.as_ptr(), bounds.as_mut_ptr())
-    };
+    let number = unsafe { c::lepsarvu_level_bounds(s, bounds.as_mut_ptr()) };
     answer(number, bounds)
 }
 
 /// The same of pictures that were coded closed-loop.
 pub fn closed_loop_bounds(s: &Settings) -> Answer<[u16; 7]> {
     let mut bounds = [0; 7];
-    let number = unsafe {
-        c::lepsarvu_closed_loop_bounds(s.columns, s.rows, s.depth, s.kernel, s.bins.as_ptr(), bounds.as_mut_ptr())
-    };
+    let number = unsafe { c::lepsarvu_closed_loop_bounds(s, bounds.as_mut_ptr()) };
     answer(number, bounds)
 }
 
@@ -151,76 +147,46 @@ pub fn deepest_depth(columns: u16, rows: u16) -> Answer<u16> {
 /// The length of the level buffer.
 pub fn total_nodes(s: &Settings) -> Answer<usize> {
     let mut nodes = 0;
-    let number = unsafe {
-        c::lepsarvu_total_nodes(s.columns, s.rows, s.depth, s.kernel, s.bins.as_ptr(), &mut nodes)
-    };
+    let number = unsafe { c::lepsarvu_total_nodes(s, &mut nodes) };
     answer(number, usize::from(nodes))
 }
 
 /// The bytes of a bale file.
 pub fn file_size(s: &Settings) -> Answer<usize> {
     let mut size = 0;
-    let number = unsafe {
-        c::lepsarvu_file_size(s.columns, s.rows, s.depth, s.kernel, s.bins.as_ptr(), &mut size)
-    };
+    let number = unsafe { c::lepsarvu_file_size(s, &mut size) };
     answer(number, size)
 }
 
 /// Writes a bale file at the start of `file` and answers its bytes.
-pub fn write_file(note: &Note, levels: &[i16], file: &mut [u8]) -> Answer<usize> {
-    let (s, [drier, press]) = (&note.settings, note.readings);
+pub fn write_file(s: &Settings, note: &Note, levels: &[i16], file: &mut [u8]) -> Answer<usize> {
     let mut size = 0;
     let number = unsafe {
         c::lepsarvu_write_file(
-            s.columns, s.rows, s.depth, s.kernel, s.bins.as_ptr(), drier.kind, drier.number, press.kind,
-            press.number, levels.as_ptr(), levels.len(), file.as_mut_ptr(), file.len(), &mut size,
+            s, note, levels.as_ptr(), levels.len(), file.as_mut_ptr(), file.len(), &mut size,
         )
     };
     answer(number, size)
 }
 
-/// The numbers that a reader fills.
-#[derive(Default)]
-struct Parts {
-    shape: [u16; 4],
-    bins: [u16; 7],
-    kinds: [u8; 2],
-    numbers: [u32; 2],
-}
-
-impl Parts {
-    fn note(&self) -> Note {
-        let [columns, rows, depth, kernel] = self.shape;
-        let reading = |at: usize| Reading { kind: self.kinds[at], number: self.numbers[at] };
-        Note {
-            settings: Settings { columns, rows, depth, kernel, bins: self.bins },
-            readings: [reading(0), reading(1)],
-        }
-    }
-}
-
 /// Reads a bale file, its indices into `levels`.
-pub fn read_file(file: &[u8], levels: &mut [i16]) -> Answer<Note> {
-    let mut parts = Parts::default();
+pub fn read_file(file: &[u8], levels: &mut [i16]) -> Answer<Bale> {
+    let mut bale = Bale::default();
     let number = unsafe {
         c::lepsarvu_read_file(
-            file.as_ptr(), file.len(), levels.as_mut_ptr(), levels.len(), parts.shape.as_mut_ptr(),
-            parts.bins.as_mut_ptr(), parts.kinds.as_mut_ptr(), parts.numbers.as_mut_ptr(),
+            file.as_ptr(), file.len(), levels.as_mut_ptr(), levels.len(), &mut bale.settings, &mut bale.note,
         )
     };
-    answer(number, parts.note())
+    answer(number, bale)
 }
 
 /// Reads a bale file whose indices nobody asks for.
-pub fn check_file(file: &[u8]) -> Answer<Note> {
-    let mut parts = Parts::default();
+pub fn check_file(file: &[u8]) -> Answer<Bale> {
+    let mut bale = Bale::default();
     let number = unsafe {
-        c::lepsarvu_check_file(
-            file.as_ptr(), file.len(), parts.shape.as_mut_ptr(), parts.bins.as_mut_ptr(),
-            parts.kinds.as_mut_ptr(), parts.numbers.as_mut_ptr(),
-        )
+        c::lepsarvu_check_file(file.as_ptr(), file.len(), &mut bale.settings, &mut bale.note)
     };
-    answer(number, parts.note())
+    answer(number, bale)
 }
 
 /// The bytes of a PGM file.
