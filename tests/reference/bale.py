@@ -1,15 +1,16 @@
-"""The bale file of document 01: its writer, its reader and the listing of the program lintlist."""
+"""The bale file of documents 01 and 02 (P5): its writer, its reader and the listing of the program lintlist."""
 
 import struct
 from dataclasses import dataclass
 
 from pyramid import flatten, indices_refusal, is_index_lawful, split_levels
 from settings import (ACCEPTED, BAD_BIN, BAD_COUNT, BAD_FILE_LENGTH, BAD_INDEX, BAD_LEVEL_LENGTH, BAD_READING,
-                      BIN_SLOTS, BYTES_FOLLOW, FILE_ENDS_EARLY, Refused, Settings, bounds, is_slot_lawful, level_size,
-                      node_count, settings_refusal, shape_refusal, total_nodes)
+                      BIN_SLOTS, BYTES_FOLLOW, FILE_ENDS_EARLY, FULL_GREYS, Refused, Settings, bounds, is_slot_lawful,
+                      level_size, node_count, settings_refusal, shape_refusal, total_nodes)
 
-# Document 01, "Bale file": counts of the first and third sections.
+# Document 01, "Bale file": counts of the first and third sections; and of the first with black and white (P5).
 SHAPE_COUNT = 4
+GREYS_SHAPE_COUNT = 6
 READING_COUNT = 2
 # Bytes of a count, of a shape or bin item or an index, and of a reading (a kind byte and four bytes).
 COUNT_BYTES = 2
@@ -36,7 +37,7 @@ class Reading:
 Note = tuple[Reading, Reading]
 
 NONE_FITTED: Note = (Reading(NOT_FITTED, 0), Reading(NOT_FITTED, 0))
-NO_SETTINGS = Settings(0, 0, 0, 0, (0,) * BIN_SLOTS)
+NO_SETTINGS = Settings(0, 0, 0, 0, (0,) * BIN_SLOTS, 0, 0)
 
 
 @dataclass(frozen=True)
@@ -68,10 +69,16 @@ def is_reading_lawful(reading: Reading) -> bool:
 
 # The writer.
 
+def written_greys(settings: Settings) -> tuple[int, ...]:
+    """What follows k in the shape section: black and white, or nothing where they are 0 and 255."""
+    greys = (settings.black, settings.white)
+    return () if greys == FULL_GREYS else greys
+
+
 def file_size(settings: Settings) -> int:
-    """24 + 4(N + 1) + 2T, as document 01 says it."""
+    """24 + 4(N + 1) + 2T, as document 01 says it, and the bytes of black and white where they are written."""
     nodes = total_nodes(settings.columns, settings.rows, settings.depth)
-    return 24 + 4 * (settings.depth + 1) + 2 * nodes
+    return 24 + 4 * (settings.depth + 1) + 2 * nodes + NUMBER_BYTES * len(written_greys(settings))
 
 
 def write_refusal(settings: Settings, note: Note, indices: list[int], buffer_length: int) -> int:
@@ -109,7 +116,7 @@ def write_bale(settings: Settings, note: Note, indices: list[int], buffer_length
     if refusal != ACCEPTED:
         return refusal, b""
     sections = [
-        numbers_section([settings.columns, settings.rows, settings.depth, settings.kernel]),
+        numbers_section([settings.columns, settings.rows, settings.depth, settings.kernel, *written_greys(settings)]),
         numbers_section([settings.bins[level] for level in range(settings.depth, -1, -1)]),
         readings_section(note),
     ]
@@ -135,21 +142,29 @@ class FileCursor:
         self.place += length
         return taken
 
+    def take_count(self, right: tuple[int, ...]) -> int:
+        """A section's count: present (9), and one of the right ones (10)."""
+        (written,) = struct.unpack("<H", self.take(COUNT_BYTES))
+        if written not in right:
+            raise Refused(BAD_COUNT)
+        return written
+
     def take_items(self, count: int, item_bytes: int) -> bytes:
         """A section's items after its count: count present (9), count right (10), items all present (9)."""
-        (written,) = struct.unpack("<H", self.take(COUNT_BYTES))
-        if written != count:
-            raise Refused(BAD_COUNT)
-        return self.take(count * item_bytes)
+        return self.take(self.take_count((count,)) * item_bytes)
 
 
-def read_shape(cursor: FileCursor) -> tuple[int, int, int, int]:
-    """C, R, N and k, lawful (the shape's first refusal)."""
-    columns, rows, depth, kernel = struct.unpack("<4H", cursor.take_items(SHAPE_COUNT, NUMBER_BYTES))
-    refusal = shape_refusal(columns, rows, depth, kernel)
+def read_shape(cursor: FileCursor) -> tuple[int, int, int, int, int, int]:
+    """C, R, N, k, black and white, lawful (the shape's first refusal); black and white that need no place have none."""
+    count = cursor.take_count((SHAPE_COUNT, GREYS_SHAPE_COUNT))
+    columns, rows, depth, kernel, *written = struct.unpack(f"<{count}H", cursor.take(count * NUMBER_BYTES))
+    black, white = written or FULL_GREYS
+    if written == list(FULL_GREYS):
+        raise Refused(BAD_COUNT)
+    refusal = shape_refusal(columns, rows, depth, kernel, black, white)
     if refusal != ACCEPTED:
         raise Refused(refusal)
-    return columns, rows, depth, kernel
+    return columns, rows, depth, kernel, black, white
 
 
 def read_bins(cursor: FileCursor, depth: int) -> tuple[int, ...]:
@@ -180,7 +195,7 @@ def read_level(cursor: FileCursor, nodes: int, bin_size: int) -> tuple[int, ...]
 
 def read_sections(cursor: FileCursor, level_length: int | None) -> Bale:
     """All sections in file order, then refusal 12 if bytes follow. No level buffer is lent if its length is None."""
-    columns, rows, depth, kernel = read_shape(cursor)
+    columns, rows, depth, kernel, black, white = read_shape(cursor)
     if level_length is not None and level_length != total_nodes(columns, rows, depth):
         raise Refused(BAD_LEVEL_LENGTH)
     bins = read_bins(cursor, depth)
@@ -190,7 +205,7 @@ def read_sections(cursor: FileCursor, level_length: int | None) -> Bale:
         indices += read_level(cursor, node_count(columns, rows, level), bins[level])
     if cursor.place != len(cursor.data):
         raise Refused(BYTES_FOLLOW)
-    return Bale(ACCEPTED, Settings(columns, rows, depth, kernel, bins), note, indices)
+    return Bale(ACCEPTED, Settings(columns, rows, depth, kernel, bins, black, white), note, indices)
 
 
 def read_bale(data: bytes, level_length: int | None = None) -> Bale:

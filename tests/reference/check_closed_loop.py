@@ -29,7 +29,7 @@ def clamped_indices(averages: list[Level], settings: Settings) -> list[int]:
     for average, size in reversed(list(zip(averages, settings.bins))):
         indices.insert(0, level_indices(combine(average, predictions[0], -1), size))
         rebuilt = combine(level_values(indices[0], size), predictions[0], 1)
-        clamped = [[clamp(value) for value in row] for row in rebuilt]
+        clamped = [[clamp(value, settings) for value in row] for row in rebuilt]
         predictions.insert(0, expand_level(clamped, settings.kernel))
     return flatten(indices)
 
@@ -58,7 +58,7 @@ def check_pieces(tally: Tally) -> None:
     for piece in CLOSED_PIECES:
         check_piece(tally, piece)
         tally.true(f"{piece.name}: open and closed indices differ", piece.indices != piece.open_indices)
-        outside = [value for value in piece.values[:-len(piece.picture)] if clamp(value) != value]
+        outside = [value for value in piece.values[:-len(piece.picture)] if clamp(value, piece.settings) != value]
         tally.equal(f"{piece.name}: clamped levels give other indices exactly if any is outside 0 to 255",
                     piece.clamped_indices != piece.indices, outside != [])
     settings, indices = PIECE_A.settings, PIECE_A.indices

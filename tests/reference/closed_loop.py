@@ -7,7 +7,7 @@ above. File and rebuilding are the same for both.
 
 from dataclasses import dataclass, field
 
-from pyramid import (Level, call_refusal, combine, expand_level, flatten, gaussian_pyramid, level_indices,
+from pyramid import (Level, coding_refusal, combine, expand_level, flatten, gaussian_pyramid, level_indices,
                      level_values, split_rows)
 from settings import ACCEPTED, Settings
 
@@ -40,7 +40,7 @@ def closed_levels(averages: list[Level], settings: Settings) -> tuple[list[Level
 
 def code_closed(settings: Settings, picture: bytes, level_length: int, work_length: int) -> ClosedCoded:
     """Code a picture closed-loop, with a level buffer and a work buffer of the given lengths."""
-    refusal = call_refusal(settings, len(picture), level_length, work_length)
+    refusal = coding_refusal(settings, picture, level_length, work_length)
     if refusal != ACCEPTED:
         return ClosedCoded(refusal)
     averages = gaussian_pyramid(split_rows(picture, settings.columns), settings.depth, settings.kernel)

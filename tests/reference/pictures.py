@@ -2,48 +2,52 @@
 
 from pyramid import VALUE_LIMIT, AxisTaps, expand_taps, reduce_taps
 from seeded import Seeded
-from settings import Settings, level_size
-
-# Largest picture byte.
-WHITE = 255
+from settings import FULL_GREYS, Settings, level_size
 
 # Names of the kinds of pictures that picture_of knows.
 PICTURE_KINDS = ("black", "white", "impulse", "hole", "checkerboard", "column step", "row step", "diagonal step",
                  "column gradient", "row gradient", "diagonal gradient", "noise", "black and white noise")
 
 
-def pixel_of(kind: str, i: int, j: int, columns: int, rows: int, numbers: Seeded) -> int:
-    """The byte of column i and row j in a picture of a kind that needs no drawn node."""
+def height_of(kind: str, i: int, j: int, columns: int, rows: int, span: int, numbers: Seeded) -> int:
+    """How far above black, 0 to the span, is column i and row j in a picture of a kind that needs no drawn node."""
     rules = {
         "black": lambda: 0,
-        "white": lambda: WHITE,
-        "checkerboard": lambda: WHITE * ((i + j) % 2),
-        "column step": lambda: WHITE * (2 * i >= columns),
-        "row step": lambda: WHITE * (2 * j >= rows),
-        "diagonal step": lambda: WHITE * (i * rows >= j * columns),
-        "column gradient": lambda: WHITE * i // (columns - 1),
-        "row gradient": lambda: WHITE - WHITE * j // (rows - 1),
-        "diagonal gradient": lambda: WHITE * (i + j) // (columns + rows - 2),
-        "noise": lambda: numbers.between(0, WHITE),
-        "black and white noise": lambda: WHITE * numbers.between(0, 1),
+        "white": lambda: span,
+        "checkerboard": lambda: span * ((i + j) % 2),
+        "column step": lambda: span * (2 * i >= columns),
+        "row step": lambda: span * (2 * j >= rows),
+        "diagonal step": lambda: span * (i * rows >= j * columns),
+        "column gradient": lambda: span * i // (columns - 1),
+        "row gradient": lambda: span - span * j // (rows - 1),
+        "diagonal gradient": lambda: span * (i + j) // (columns + rows - 2),
+        "noise": lambda: numbers.between(0, span),
+        "black and white noise": lambda: span * numbers.between(0, 1),
     }
     return rules[kind]()
 
 
-def single_pixel(columns: int, rows: int, background: int, numbers: Seeded) -> bytes:
-    """One drawn pixel of the opposite byte on a background of 0 or 255."""
+def single_pixel(columns: int, rows: int, background: int, pixel: int, numbers: Seeded) -> bytes:
+    """One pixel at a drawn place on a background."""
     pixels = [background] * (columns * rows)
-    pixels[numbers.between(0, columns * rows - 1)] = WHITE - background
+    pixels[numbers.between(0, columns * rows - 1)] = pixel
     return bytes(pixels)
 
 
-def picture_of(kind: str, columns: int, rows: int, numbers: Seeded) -> bytes:
-    """A picture of a kind, row after row."""
+def picture_of(kind: str, columns: int, rows: int, numbers: Seeded, greys: tuple[int, int] = FULL_GREYS) -> bytes:
+    """A picture of a kind between a black and a white, row after row."""
+    black, white = greys
     if kind == "impulse":
-        return single_pixel(columns, rows, 0, numbers)
+        return single_pixel(columns, rows, black, white, numbers)
     if kind == "hole":
-        return single_pixel(columns, rows, WHITE, numbers)
-    return bytes(pixel_of(kind, i, j, columns, rows, numbers) for j in range(rows) for i in range(columns))
+        return single_pixel(columns, rows, white, black, numbers)
+    return bytes(black + height_of(kind, i, j, columns, rows, white - black, numbers)
+                 for j in range(rows) for i in range(columns))
+
+
+def lawful_picture(kind: str, settings: Settings, numbers: Seeded) -> bytes:
+    """A picture of a kind that the settings' coding accepts."""
+    return picture_of(kind, settings.columns, settings.rows, numbers, (settings.black, settings.white))
 
 
 # Pictures and level buffers that drive one node as far as possible.
@@ -87,7 +91,8 @@ def extreme_picture(settings: Settings, level: int, node: tuple[int, int], sign:
             prediction = prediction_weights(side, level, start, settings.kernel)
         axes.append(list(zip(average, prediction, strict=True)))
     # The prediction has two more factors of 20 on each axis, and the factor 4 of EXPAND.
-    return bytes(WHITE * (sign * (20 ** 4 * average_i * average_j - 4 * prediction_i * prediction_j) > 0)
+    return bytes(settings.white if sign * (20 ** 4 * average_i * average_j - 4 * prediction_i * prediction_j) > 0
+                 else settings.black
                  for average_j, prediction_j in axes[1] for average_i, prediction_i in axes[0])
 
 
@@ -124,6 +129,17 @@ def random_indices(settings: Settings, numbers: Seeded) -> list[int]:
         columns, rows = level_size(settings.columns, settings.rows, level)
         size = largest_index(settings.bins[level])
         indices += [numbers.between(-size, size) for _ in range(columns * rows)]
+    return indices
+
+
+def near_indices(settings: Settings, numbers: Seeded) -> list[int]:
+    """A lawful level buffer whose rebuilt values lie around black and white, some between them and some outside."""
+    indices: list[int] = []
+    for level in range(settings.depth, -1, -1):
+        columns, rows = level_size(settings.columns, settings.rows, level)
+        size = settings.bins[level]
+        low, high = (settings.black - 60, settings.white + 60) if level == settings.depth else (-60, 60)
+        indices += [numbers.between(low // size, high // size) for _ in range(columns * rows)]
     return indices
 
 

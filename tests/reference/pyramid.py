@@ -1,4 +1,4 @@
-"""The Laplacian pyramid of Burt and Adelson (1983), under the rulings of document 01.
+"""The Laplacian pyramid of Burt and Adelson (1983), under the rulings of document 01 and of document 02, P5.
 
 Whole numbers and exact fractions only. A level is a list of rows, so node (i, j) of the paper, column i and row j,
 is level[j][i]. A list of levels has level 0 first. The flat order of the level buffer has level N first.
@@ -8,8 +8,8 @@ from dataclasses import dataclass, field
 from fractions import Fraction
 from math import floor
 
-from settings import (ACCEPTED, BAD_INDEX, BAD_LEVEL_LENGTH, BAD_PICTURE_LENGTH, BAD_WORK_LENGTH, Settings,
-                      level_size, node_count, settings_refusal, total_nodes)
+from settings import (ACCEPTED, BAD_INDEX, BAD_LEVEL_LENGTH, BAD_PICTURE_LENGTH, BAD_WORK_LENGTH, PIXEL_OUTSIDE,
+                      Settings, level_size, node_count, settings_refusal, total_nodes)
 
 Level = list[list[int]]
 AxisTaps = list[tuple[int, int]]
@@ -136,6 +136,15 @@ def call_refusal(settings: Settings, picture_length: int, level_length: int, wor
     return ACCEPTED if work_length >= nodes else BAD_WORK_LENGTH
 
 
+def coding_refusal(settings: Settings, picture: bytes, level_length: int, work_length: int) -> int:
+    """The call's first refusal, then 20, or 0; of a coding in either manner."""
+    refusal = call_refusal(settings, len(picture), level_length, work_length)
+    if refusal != ACCEPTED:
+        return refusal
+    inside = all(settings.black <= pixel <= settings.white for pixel in picture)
+    return ACCEPTED if inside else PIXEL_OUTSIDE
+
+
 def combine(first: Level, second: Level, sign: int) -> Level:
     """First plus sign times second, node by node."""
     return [[a + sign * b for a, b in zip(row_a, row_b, strict=True)]
@@ -172,7 +181,7 @@ def level_indices(level: Level, bin_size: int) -> Level:
 
 def code(settings: Settings, picture: bytes, level_length: int, work_length: int) -> Coded:
     """Code a picture open-loop, with a level buffer and a work buffer of the given lengths."""
-    refusal = call_refusal(settings, len(picture), level_length, work_length)
+    refusal = coding_refusal(settings, picture, level_length, work_length)
     if refusal != ACCEPTED:
         return Coded(refusal)
     averages = gaussian_pyramid(split_rows(picture, settings.columns), settings.depth, settings.kernel)
@@ -214,9 +223,9 @@ def rebuild_levels(values: list[Level], kernel: int) -> list[Level]:
     return rebuilt
 
 
-def clamp(value: int) -> int:
-    """The nearest picture byte, 0 to 255."""
-    return max(0, min(255, value))
+def clamp(value: int, settings: Settings) -> int:
+    """The nearest grey that the camera can send, black to white."""
+    return max(settings.black, min(settings.white, value))
 
 
 def rebuild(settings: Settings, indices: list[int], picture_length: int, work_length: int) -> Rebuilt:
@@ -227,4 +236,5 @@ def rebuild(settings: Settings, indices: list[int], picture_length: int, work_le
     if refusal != ACCEPTED:
         return Rebuilt(refusal)
     rebuilt = rebuild_levels(index_values(indices, settings), settings.kernel)
-    return Rebuilt(ACCEPTED, flatten(rebuilt), bytes(clamp(value) for row in rebuilt[0] for value in row))
+    picture = bytes(clamp(value, settings) for row in rebuilt[0] for value in row)
+    return Rebuilt(ACCEPTED, flatten(rebuilt), picture)

@@ -3,7 +3,7 @@
 from collections.abc import Sequence
 from typing import TypeVar
 
-from settings import BIN_SLOTS, KERNELS, LARGEST_BIN, Settings, deepest_depth
+from settings import BIN_SLOTS, FULL_GREYS, KERNELS, LARGEST_BIN, LARGEST_WHITE, Settings, deepest_depth, with_greys
 
 Item = TypeVar("Item")
 
@@ -81,3 +81,20 @@ def random_settings(numbers: Seeded, largest: int, families: Sequence[str] = BIN
     depth = numbers.between(0, deepest_depth(columns, rows)[1])
     bins = bins_of(numbers.choice(families), depth, numbers)
     return Settings(columns, rows, depth, numbers.choice(KERNELS), bins)
+
+
+# Black and white of the trade's cameras, and pairs at the ends of the range.
+GREYS = ((16, 235), (0, 254), (1, 255), (254, 255), (0, 1))
+
+
+def random_greys(numbers: Seeded) -> tuple[int, int]:
+    """A lawful black and white: in half of the draws one of GREYS or 0 and 255."""
+    if numbers.between(0, 1) == 0:
+        return numbers.choice((*GREYS, FULL_GREYS))
+    black = numbers.between(0, LARGEST_WHITE - 1)
+    return black, numbers.between(black + 1, LARGEST_WHITE)
+
+
+def random_greys_settings(numbers: Seeded, largest: int, families: Sequence[str] = BIN_FAMILIES) -> Settings:
+    """The same as random_settings with a random black and white."""
+    return with_greys(random_settings(numbers, largest, families), random_greys(numbers))

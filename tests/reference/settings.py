@@ -1,9 +1,9 @@
 """Settings of the pyramid, their refusals, level sizes, the deepest depth and the bounds.
 
-Documents 01, and 02 P1 and P4.
+Documents 01, and 02 P1, P4 and P5.
 """
 
-from dataclasses import dataclass
+from dataclasses import dataclass, replace
 from fractions import Fraction
 from math import ceil
 
@@ -15,10 +15,14 @@ KERNELS = (3, 4, 5, 6)
 BIN_SLOTS = 7
 LARGEST_BIN = 255
 
+# Document 02, P5: the largest white, and the black and white with which pictures and files are those of document 01.
+LARGEST_WHITE = 255
+FULL_GREYS = (0, 255)
+
 # Document 01, "Bound": the multiplier in hundredths for each k.
 BOUND_HUNDREDTHS = {3: 100, 4: 100, 5: 100, 6: 196}
 
-# Document 01, "Who can cause which refusal", and document 02, P1 and P2. 0 is used here for an accepted call.
+# Document 01, "Who can cause which refusal", and document 02, P1, P2 and P5. 0 is used here for an accepted call.
 ACCEPTED = 0
 BAD_SIZE = 1
 BAD_KERNEL = 2
@@ -38,6 +42,8 @@ ROWS_INDIVISIBLE = 15
 BAD_HEADER = 16
 BAD_GREATEST_GREY = 17
 BAD_PIXEL_COUNT = 18
+BAD_GREYS = 19
+PIXEL_OUTSIDE = 20
 
 
 class Refused(Exception):
@@ -50,13 +56,20 @@ class Refused(Exception):
 
 @dataclass(frozen=True)
 class Settings:
-    """The settings of document 01; slot l of the seven bins belongs to level l."""
+    """The settings of documents 01 and 02; slot l of the seven bins belongs to level l."""
 
     columns: int
     rows: int
     depth: int
     kernel: int
     bins: tuple[int, ...]
+    black: int = FULL_GREYS[0]
+    white: int = FULL_GREYS[1]
+
+
+def with_greys(settings: Settings, greys: tuple[int, int]) -> Settings:
+    """The settings with another black and white."""
+    return replace(settings, black=greys[0], white=greys[1])
 
 
 def is_size_lawful(columns: int, rows: int) -> bool:
@@ -69,8 +82,14 @@ def is_divisible(side: int, depth: int) -> bool:
     return (side - 1) % 2 ** depth == 0
 
 
-def shape_refusal(columns: int, rows: int, depth: int, kernel: int) -> int:
-    """Refusals 1, 13, 14, 15, 2 in this order, or 0."""
+def are_greys_lawful(black: int, white: int) -> bool:
+    """Say whether black is below white and white at most 255."""
+    return black < white <= LARGEST_WHITE
+
+
+def shape_refusal(columns: int, rows: int, depth: int, kernel: int, black: int = FULL_GREYS[0],
+                  white: int = FULL_GREYS[1]) -> int:
+    """Refusals 1, 13, 14, 15, 2, 19 in this order, or 0."""
     if not is_size_lawful(columns, rows):
         return BAD_SIZE
     if depth > LARGEST_DEPTH:
@@ -79,7 +98,9 @@ def shape_refusal(columns: int, rows: int, depth: int, kernel: int) -> int:
         return COLUMNS_INDIVISIBLE
     if not is_divisible(rows, depth):
         return ROWS_INDIVISIBLE
-    return ACCEPTED if kernel in KERNELS else BAD_KERNEL
+    if kernel not in KERNELS:
+        return BAD_KERNEL
+    return ACCEPTED if are_greys_lawful(black, white) else BAD_GREYS
 
 
 def is_slot_lawful(slot: int, bin_size: int, depth: int) -> bool:
@@ -90,7 +111,8 @@ def is_slot_lawful(slot: int, bin_size: int, depth: int) -> bool:
 def settings_refusal(settings: Settings) -> int:
     """The shape's first refusal, then 3, or 0."""
     assert len(settings.bins) == BIN_SLOTS
-    refusal = shape_refusal(settings.columns, settings.rows, settings.depth, settings.kernel)
+    refusal = shape_refusal(settings.columns, settings.rows, settings.depth, settings.kernel, settings.black,
+                            settings.white)
     if refusal != ACCEPTED:
         return refusal
     lawful = all(is_slot_lawful(slot, size, settings.depth) for slot, size in enumerate(settings.bins))

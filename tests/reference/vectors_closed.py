@@ -9,7 +9,7 @@ from pictures import PICTURE_KINDS, extreme_picture, picture_of
 from pyramid import rebuild
 from seeded import CLOSED_BIN_FAMILIES, SEED, Seeded, bins_of, fill_slots, random_settings
 from settings import KERNELS, LARGEST_DEPTH, Settings, closed_bounds, level_size, total_nodes
-from vectors_pyramid import settings_bytes
+from vectors_pyramid import SettingsForm, settings_bytes
 
 Case = tuple[Settings, bytes]
 
@@ -24,7 +24,7 @@ FURTHER_SHAPES = ((2, 129, 0, 5), (129, 2, 0, 6), (129, 3, 1, 3), (3, 129, 1, 6)
 LARGEST_CASES = ((3, "mixed", "noise"), (4, "large below", "diagonal step"), (5, "odd", "black and white noise"))
 
 
-def case_bytes(settings: Settings, picture: bytes) -> bytes:
+def case_bytes(settings: Settings, picture: bytes, form: SettingsForm = settings_bytes) -> bytes:
     """One case: settings, picture, indices, rebuilt values, rebuilt picture, bounds."""
     nodes = total_nodes(settings.columns, settings.rows, settings.depth)
     coded = code_closed(settings, picture, nodes, nodes)
@@ -32,7 +32,7 @@ def case_bytes(settings: Settings, picture: bytes) -> bytes:
     assert coded.refusal == 0 and rebuilt.refusal == 0 and coded.values == rebuilt.values
     within = closed_bounds(settings)[1]
     return b"".join([
-        settings_bytes(settings),
+        form(settings),
         picture,
         struct.pack(f"<{nodes}h", *coded.indices),
         struct.pack(f"<{nodes}h", *coded.values),

@@ -5,12 +5,13 @@ from collections.abc import Iterator
 
 from bale import Bale, FileCursor, read_bale, read_shape, write_bale
 from faulty_files import faulty_files
-from pictures import patterned_indices, picture_of, random_indices
+from pictures import lawful_picture, patterned_indices, random_indices
 from piece_a import FILE_A
 from pyramid import code
 from random_files import damage, random_file, random_note
 from seeded import BIN_FAMILIES, SEED, Seeded, bins_of
 from settings import ACCEPTED, KERNELS, LARGEST_DEPTH, Refused, Settings, total_nodes
+from vectors_pyramid import SettingsForm, settings_bytes
 
 # Further whole sizes and depths.
 SHAPES = ((2, 3, 0), (3, 2, 0), (129, 2, 0), (2, 129, 0), (129, 3, 1), (3, 129, 1), (7, 11, 1), (13, 5, 2), (5, 21, 2),
@@ -23,26 +24,23 @@ BYTE_STEPS = (1, -1)
 def shape_nodes(data: bytes) -> int:
     """T of the shape section, or 0 where the reader refuses that section."""
     try:
-        columns, rows, depth, _ = read_shape(FileCursor(data))
+        columns, rows, depth, *_ = read_shape(FileCursor(data))
     except Refused:
         return 0
     return total_nodes(columns, rows, depth)
 
 
-def answer_bytes(bale: Bale) -> bytes:
+def answer_bytes(bale: Bale, form: SettingsForm) -> bytes:
     """An accepted file's settings (bins: slot 0 first), readings and indices, as the reference decoded them."""
-    settings = bale.settings
-    shape = (settings.columns, settings.rows, settings.depth, settings.kernel)
     readings = b"".join(struct.pack("<BI", reading.kind, reading.bits) for reading in bale.note)
-    indices = struct.pack(f"<{len(bale.indices)}h", *bale.indices)
-    return struct.pack("<11H", *shape, *settings.bins) + readings + indices
+    return form(bale.settings) + readings + struct.pack(f"<{len(bale.indices)}h", *bale.indices)
 
 
-def case_bytes(data: bytes) -> bytes:
+def case_bytes(data: bytes, form: SettingsForm = settings_bytes) -> bytes:
     """One case: the answer of the reader that is lent no level buffer, T, the file, and what an accepted one says."""
     bale = read_bale(data)
     head = struct.pack("<HHI", bale.refusal, shape_nodes(data), len(data))
-    return head + data + (answer_bytes(bale) if bale.refusal == ACCEPTED else b"")
+    return head + data + (answer_bytes(bale, form) if bale.refusal == ACCEPTED else b"")
 
 
 def written(settings: Settings, indices: list[int], numbers: Seeded) -> bytes:
@@ -55,7 +53,7 @@ def written(settings: Settings, indices: list[int], numbers: Seeded) -> bytes:
 def coded_file(settings: Settings, numbers: Seeded) -> bytes:
     """A whole file of a coded picture."""
     nodes = total_nodes(settings.columns, settings.rows, settings.depth)
-    picture = picture_of("noise", settings.columns, settings.rows, numbers)
+    picture = lawful_picture("noise", settings, numbers)
     return written(settings, code(settings, picture, nodes, nodes).indices, numbers)
 
 
@@ -76,12 +74,12 @@ def whole_files(numbers: Seeded) -> Iterator[bytes]:
         yield written(settings, patterned_indices(settings, "node"), numbers)
 
 
-def one_byte_changed() -> Iterator[bytes]:
-    """Piece A's file with every single byte changed in several ways."""
-    for place, old in enumerate(FILE_A):
+def one_byte_changed(data: bytes) -> Iterator[bytes]:
+    """A file with every single byte changed in several ways."""
+    for place, old in enumerate(data):
         new_bytes = set(BYTE_VALUES) | {(old + step) % 256 for step in BYTE_STEPS}
         for new in sorted(new_bytes - {old}):
-            yield FILE_A[:place] + bytes([new]) + FILE_A[place + 1:]
+            yield data[:place] + bytes([new]) + data[place + 1:]
 
 
 def damaged_files(numbers: Seeded) -> Iterator[bytes]:
@@ -92,13 +90,17 @@ def damaged_files(numbers: Seeded) -> Iterator[bytes]:
         yield numbers.draw_bytes(length)
 
 
-def largest_files(numbers: Seeded) -> Iterator[bytes]:
-    """The largest file, the same with its last byte missing, and with one byte more."""
-    settings = Settings(129, 129, 6, 6, bins_of("small", 6, numbers))
+def whole_and_not(settings: Settings, numbers: Seeded) -> Iterator[bytes]:
+    """A file, the same with its last byte missing, and with one byte more."""
     data = coded_file(settings, numbers)
     yield data
     yield data[:-1]
     yield data + b"\0"
+
+
+def largest_files(numbers: Seeded) -> Iterator[bytes]:
+    """The largest file with four numbers in its shape section, whole and not."""
+    yield from whole_and_not(Settings(129, 129, 6, 6, bins_of("small", 6, numbers)), numbers)
 
 
 def cases() -> Iterator[bytes]:
@@ -107,7 +109,7 @@ def cases() -> Iterator[bytes]:
     yield case_bytes(FILE_A)
     for data, _ in faulty_files():
         yield case_bytes(data)
-    for data in one_byte_changed():
+    for data in one_byte_changed(FILE_A):
         yield case_bytes(data)
     for part in (whole_files, damaged_files, largest_files):
         for data in part(numbers):

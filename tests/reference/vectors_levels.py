@@ -7,19 +7,19 @@ from pictures import extreme_indices, largest_index, patterned_indices, random_i
 from pyramid import rebuild
 from seeded import SEED, Seeded, bins_of, fill_slots
 from settings import KERNELS, Settings, total_nodes
-from vectors_pyramid import settings_bytes
+from vectors_pyramid import SettingsForm, settings_bytes
 
 Case = tuple[Settings, list[int]]
 
 PATTERNS = ("plus", "minus", "column", "row", "node", "level")
 
 
-def case_bytes(settings: Settings, indices: list[int]) -> bytes:
+def case_bytes(settings: Settings, indices: list[int], form: SettingsForm = settings_bytes) -> bytes:
     """One case: settings, indices, the answer, and if it is 0 the rebuilt values and picture."""
     pixels = settings.columns * settings.rows
     rebuilt = rebuild(settings, indices, pixels, len(indices))
     assert rebuilt.refusal in (0, 11)
-    head = settings_bytes(settings) + struct.pack(f"<{len(indices)}hH", *indices, rebuilt.refusal)
+    head = form(settings) + struct.pack(f"<{len(indices)}hH", *indices, rebuilt.refusal)
     return head + struct.pack(f"<{len(rebuilt.values)}i", *rebuilt.values) + rebuilt.picture
 
 

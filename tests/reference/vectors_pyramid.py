@@ -1,14 +1,16 @@
 """Vectors of coding and rebuilding."""
 
 import struct
-from collections.abc import Iterator
+from collections.abc import Callable, Iterator
 
 from pictures import PICTURE_KINDS, extreme_picture, picture_of
 from pyramid import code, rebuild
 from seeded import BIN_FAMILIES, SEED, Seeded, bins_of, random_settings
-from settings import KERNELS, LARGEST_DEPTH, Settings, bounds, level_size, total_nodes
+from settings import FULL_GREYS, KERNELS, LARGEST_DEPTH, Settings, bounds, level_size, total_nodes
 
 Case = tuple[Settings, bytes]
+# How a kind of vectors writes settings.
+SettingsForm = Callable[[Settings], bytes]
 
 # Sizes and depths for each combination of kernel and kind of picture.
 SMALL_SHAPES = ((9, 9, 3), (5, 13, 2), (17, 9, 3), (3, 7, 1))
@@ -18,11 +20,18 @@ FURTHER_SHAPES = ((2, 129, 0, 3), (129, 2, 0, 6), (129, 3, 1, 4), (3, 129, 1, 6)
 
 
 def settings_bytes(settings: Settings) -> bytes:
-    """C, R, N, k and the seven bins, two bytes each, low byte first, slot 0 first."""
+    """C, R, N, k and the seven bins, two bytes each, low byte first, slot 0 first; black and white are 0 and 255."""
+    assert (settings.black, settings.white) == FULL_GREYS
     return struct.pack("<4H7H", settings.columns, settings.rows, settings.depth, settings.kernel, *settings.bins)
 
 
-def case_bytes(settings: Settings, picture: bytes) -> bytes:
+def greys_settings_bytes(settings: Settings) -> bytes:
+    """C, R, N, k, black, white and the seven bins, two bytes each, low byte first, slot 0 first."""
+    return struct.pack("<6H7H", settings.columns, settings.rows, settings.depth, settings.kernel, settings.black,
+                       settings.white, *settings.bins)
+
+
+def case_bytes(settings: Settings, picture: bytes, form: SettingsForm = settings_bytes) -> bytes:
     """One case: settings, picture, indices, averages, rebuilt values, rebuilt picture, bounds."""
     nodes = total_nodes(settings.columns, settings.rows, settings.depth)
     coded = code(settings, picture, nodes, nodes)
@@ -30,7 +39,7 @@ def case_bytes(settings: Settings, picture: bytes) -> bytes:
     assert coded.refusal == 0 and rebuilt.refusal == 0
     within = bounds(settings)[1]
     return b"".join([
-        settings_bytes(settings),
+        form(settings),
         picture,
         struct.pack(f"<{nodes}h", *coded.indices),
         struct.pack(f"<{nodes}h", *coded.averages),
