@@ -11,12 +11,14 @@ import vectors_pgm
 import vectors_pyramid
 from bale import Reading, file_size, write_bale
 from faulty_files import READINGS
-from pictures import PICTURE_KINDS, largest_index, patterned_indices, picture_of, random_indices
+from pictures import (PICTURE_KINDS, largest_index, lawful_picture, near_indices, patterned_indices, picture_of,
+                      random_indices)
 from pyramid import code, rebuild
-from random_files import damage, random_file, random_reading
+from random_files import GREYS_SHAPE_BYTES, damage, random_file, random_reading
 from random_pgm import any_pgm
-from seeded import CLOSED_BIN_FAMILIES, Seeded, random_settings
-from settings import Settings, bounds, deepest_depth, settings_refusal, shape_refusal, total_nodes
+from seeded import CLOSED_BIN_FAMILIES, Seeded, random_greys, random_greys_settings, random_settings
+from settings import LARGEST_WHITE, Settings, bounds, deepest_depth, settings_refusal, shape_refusal, total_nodes
+from vectors_pyramid import greys_settings_bytes
 
 # Largest sides of small and of large cases.
 SMALL_SIDE = 9
@@ -27,6 +29,7 @@ SIDES = (0, 1, 2, 3, 4, 6, 10, 128, 129, 130, 131, 257, 65535)
 DEPTHS = (0, 1, 2, 3, 6, 7, 8, 16, 65535)
 KERNELS = (0, 2, 3, 6, 7, 65535)
 BINS = (0, 1, 255, 256, 65535)
+GREY_NUMBERS = (0, 1, 15, 16, 17, 234, 235, 236, 254, 255, 256, 65535)
 
 
 def pyramid_case(numbers: Seeded, side: int) -> bytes:
@@ -36,17 +39,21 @@ def pyramid_case(numbers: Seeded, side: int) -> bytes:
     return vectors_pyramid.case_bytes(settings, picture)
 
 
-def levels_case(numbers: Seeded, side: int) -> bytes:
-    """A rebuilding from levels that no coding made; in one of four an index is out of range."""
-    settings = random_settings(numbers, side)
-    indices = random_indices(settings, numbers)
+def any_indices(settings: Settings, indices: list[int], numbers: Seeded) -> list[int]:
+    """The indices, or in one of eight draws the largest lawful ones; in one of four an index is out of range."""
     way = numbers.between(0, 7)
     if way == 0:
         indices = patterned_indices(settings, numbers.choice(vectors_levels.PATTERNS))
     if way in (1, 2):
         too_large = largest_index(settings.bins[0]) + numbers.between(1, 3)
         indices[-1 - numbers.between(0, settings.columns * settings.rows - 1)] = numbers.choice((1, -1)) * too_large
-    return vectors_levels.case_bytes(settings, indices)
+    return indices
+
+
+def levels_case(numbers: Seeded, side: int) -> bytes:
+    """A rebuilding from levels that no coding made."""
+    settings = random_settings(numbers, side)
+    return vectors_levels.case_bytes(settings, any_indices(settings, random_indices(settings, numbers), numbers))
 
 
 def files_case(numbers: Seeded, side: int) -> bytes:
@@ -67,11 +74,42 @@ def closed_case(numbers: Seeded, side: int) -> bytes:
     return vectors_closed.case_bytes(settings, picture)
 
 
+# The same with black and white.
+
+def pyramid_greys_case(numbers: Seeded, side: int) -> bytes:
+    """An open-loop coding and the rebuilding from its levels."""
+    settings = random_greys_settings(numbers, side)
+    picture = lawful_picture(numbers.choice(PICTURE_KINDS), settings, numbers)
+    return vectors_pyramid.case_bytes(settings, picture, greys_settings_bytes)
+
+
+def levels_greys_case(numbers: Seeded, side: int) -> bytes:
+    """A rebuilding from levels that no coding made, in one of two around black and white."""
+    settings = random_greys_settings(numbers, side)
+    draw = numbers.choice((near_indices, random_indices))
+    indices = any_indices(settings, draw(settings, numbers), numbers)
+    return vectors_levels.case_bytes(settings, indices, greys_settings_bytes)
+
+
+def files_greys_case(numbers: Seeded, side: int) -> bytes:
+    """A file, whole in one of three."""
+    data = random_file(numbers, side, random_greys(numbers))
+    damaged = data if numbers.between(0, 2) == 0 else damage(data, numbers, GREYS_SHAPE_BYTES)
+    return vectors_files.case_bytes(damaged, greys_settings_bytes)
+
+
+def closed_greys_case(numbers: Seeded, side: int) -> bytes:
+    """A closed-loop coding."""
+    settings = random_greys_settings(numbers, side, CLOSED_BIN_FAMILIES)
+    picture = lawful_picture(numbers.choice(PICTURE_KINDS), settings, numbers)
+    return vectors_closed.case_bytes(settings, picture, greys_settings_bytes)
+
+
 # Calls: whether they are accepted, of settings and lengths that may be unlawful.
 
 def spoiled(settings: Settings, numbers: Seeded) -> Settings:
     """Settings with one value put where it may be unlawful."""
-    way = numbers.between(0, 4)
+    way = numbers.between(0, 6)
     if way == 0:
         return replace(settings, columns=numbers.choice(SIDES))
     if way == 1:
@@ -80,13 +118,17 @@ def spoiled(settings: Settings, numbers: Seeded) -> Settings:
         return replace(settings, depth=numbers.choice(DEPTHS))
     if way == 3:
         return replace(settings, kernel=numbers.choice(KERNELS))
+    if way == 4:
+        return replace(settings, black=numbers.choice(GREY_NUMBERS))
+    if way == 5:
+        return replace(settings, white=numbers.choice(GREY_NUMBERS))
     slot = numbers.between(0, len(settings.bins) - 1)
     return replace(settings, bins=settings.bins[:slot] + (numbers.choice(BINS),) + settings.bins[slot + 1:])
 
 
 def any_settings(numbers: Seeded, side: int) -> Settings:
     """Lawful settings, in one of three spoiled once or twice."""
-    settings = random_settings(numbers, side)
+    settings = random_greys_settings(numbers, side)
     if numbers.between(0, 2) == 0:
         for _ in range(numbers.between(1, 2)):
             settings = spoiled(settings, numbers)
@@ -118,14 +160,22 @@ def lent_lengths(settings: Settings, numbers: Seeded) -> tuple[int, int, int, in
     return tuple(any_length(length, numbers) for length in right)
 
 
+def any_pixel(settings: Settings, numbers: Seeded) -> int:
+    """A byte at or just beyond black or white, or any."""
+    near = (settings.black - 1, settings.black, settings.black + 1, settings.white - 1, settings.white,
+            settings.white + 1, numbers.between(0, LARGEST_WHITE))
+    return max(0, min(LARGEST_WHITE, numbers.choice(near)))
+
+
 def calls_case(numbers: Seeded, side: int) -> bytes:
-    """Settings, lengths, readings, one index for all nodes, and the answer of every call."""
+    """Settings, lengths, readings, one index for all nodes, the answer of every call, and one byte for all pixels."""
     settings = any_settings(numbers, side)
     lengths = lent_lengths(settings, numbers)
     note = (any_reading(numbers), any_reading(numbers))
     index = numbers.choice((0, 0, 1, -1, 16, 17, -17, 4096, 4097, -32768))
     indices = [index] * lengths[1]
-    coded = code(settings, bytes(lengths[0]), lengths[1], lengths[2]).refusal
+    pixel = any_pixel(settings, numbers)
+    coded = code(settings, bytes([pixel]) * lengths[0], lengths[1], lengths[2]).refusal
     rebuilt = rebuild(settings, indices, lengths[0], lengths[2]).refusal
     written = write_bale(settings, note, indices, lengths[3])[0]
     deepest = deepest_depth(settings.columns, settings.rows)
@@ -134,13 +184,14 @@ def calls_case(numbers: Seeded, side: int) -> bytes:
     size = file_size(settings) if lawful else 0
     readings = b"".join(struct.pack("<BI", reading.kind, reading.bits) for reading in note)
     answers = struct.pack("<3H", coded, rebuilt, written) + struct.pack("<4H", bounds(settings)[0], *deepest, nodes)
-    return (vectors_pyramid.settings_bytes(settings) + struct.pack("<4H", *lengths) + readings
-            + struct.pack("<h", index) + answers + struct.pack("<I", size))
+    return (greys_settings_bytes(settings) + struct.pack("<4H", *lengths) + readings
+            + struct.pack("<h", index) + answers + struct.pack("<IB", size, pixel))
 
 
 CASES: dict[str, Callable[[Seeded, int], bytes]] = {
     "pyramid": pyramid_case, "levels": levels_case, "files": files_case, "calls": calls_case,
-    "pgm": pgm_case, "closed": closed_case,
+    "pgm": pgm_case, "closed": closed_case, "pyramid_greys": pyramid_greys_case, "levels_greys": levels_greys_case,
+    "files_greys": files_greys_case, "closed_greys": closed_greys_case,
 }
 
 
