@@ -14,6 +14,9 @@ static const uint16_t SIDES[SIZES] = {17, 33, 65, 129};
 static const uint16_t DEPTHS[SIZES] = {4, 5, 6, 6};
 static const double ROUND_SECONDS = 0.004;
 
+/* Of a camera that does not use all greys. */
+enum { CAMERA_BLACK = 16, CAMERA_WHITE = 235, CAMERA_GREYS = CAMERA_WHITE - CAMERA_BLACK + 1 };
+
 /* The library is the first implementation, plain C the second. */
 static const struct pyramid_calls *const PYRAMIDS[2] = {&library_pyramid, &fast_pyramid};
 static const struct file_calls *const FILES[2] = {&library_file, &fast_file};
@@ -21,10 +24,9 @@ static const struct pgm_calls *const PGMS[2] = {&library_pgm, &fast_pgm};
 
 struct job {
     int which;
-    uint16_t side, depth, kernel, answer;
-    uint16_t bins[LEPSARVU_SLOTS], shape[4], read_bins[LEPSARVU_SLOTS], columns, rows;
-    uint8_t kinds[2];
-    uint32_t numbers[2];
+    uint16_t answer, columns, rows;
+    lepsarvu_settings settings, read_settings;
+    lepsarvu_note note, read_note;
     unsigned nodes, pixels;
     size_t size;
     uint8_t picture[LEPSARVU_MOST_PIXELS], rebuilt[LEPSARVU_MOST_PIXELS], file[LEPSARVU_MOST_FILE_BYTES];
@@ -34,22 +36,22 @@ struct job {
 
 typedef void call(struct job *it);
 
-/* Zeroed memory, settings, and a picture of waves with some noise. */
+/* Zeroed memory, settings, and a picture of waves with some noise, whose greys are 16 to 235. */
 static void prepare(struct job *it, int size, uint16_t kernel)
 {
+    uint16_t side = SIDES[size];
     memset(it, 0, sizeof *it);
-    it->side = SIDES[size];
-    it->depth = DEPTHS[size];
-    it->kernel = kernel;
-    for (unsigned slot = 0; slot <= it->depth; slot++)
-        it->bins[slot] = (uint16_t)(3 + 2 * slot);
-    it->pixels = (unsigned)it->side * it->side;
-    it->nodes = (unsigned)fast_nodes(it->side, it->side, it->depth);
+    it->settings = (lepsarvu_settings){
+        .columns = side, .rows = side, .depth = DEPTHS[size], .kernel = kernel, .black = 0, .white = 255};
+    for (unsigned slot = 0; slot <= it->settings.depth; slot++)
+        it->settings.bins[slot] = (uint16_t)(3 + 2 * slot);
+    it->pixels = (unsigned)side * side;
+    it->nodes = (unsigned)fast_nodes(&it->settings);
     uint32_t noise = 1983;
     for (unsigned at = 0; at < it->pixels; at++) {
-        unsigned row = at / it->side, column = at % it->side;
+        unsigned row = at / side, column = at % side;
         noise = noise * 1664525u + 1013904223u;
-        it->picture[at] = (uint8_t)((row * column / 3 + 2 * row + (noise >> 27)) & 255);
+        it->picture[at] = (uint8_t)(CAMERA_BLACK + (row * column / 3 + 2 * row + (noise >> 27)) % CAMERA_GREYS);
     }
 }
 
@@ -64,7 +66,8 @@ static void must_agree(struct job *it, call *work)
     work(&other);
     other.which = 0;
     if (memcmp(it, &other, sizeof other) != 0 || it->answer != 0) {
-        fprintf(stderr, "library and plain C differ, or refuse: side %u, kernel %u\n", it->side, it->kernel);
+        fprintf(stderr, "library and plain C differ, or refuse: side %u, kernel %u, black %u\n", it->settings.columns,
+                it->settings.kernel, it->settings.black);
         exit(1);
     }
 }
@@ -124,8 +127,8 @@ static void compare_times(const char *name, struct job *it, call *work)
 {
     double best[2];
     best_times(it, (const struct timed[2]){{work, 0}, {work, 1}}, best);
-    printf("| %-18s | %3u by %3u | %6u | %10.3f | %10.3f | %5.2f | %15.3f | %15.3f |\n", name, it->side, it->side,
-           it->nodes, best[0] * 1e6, best[1] * 1e6, best[0] / best[1], best[0] * 1e9 / it->nodes,
+    printf("| %-18s | %3u by %3u | %6u | %10.3f | %10.3f | %5.2f | %15.3f | %15.3f |\n", name, it->settings.columns,
+           it->settings.rows, it->nodes, best[0] * 1e6, best[1] * 1e6, best[0] / best[1], best[0] * 1e9 / it->nodes,
            best[1] * 1e9 / it->nodes);
 }
 

@@ -3,8 +3,8 @@
 
 static void writing(struct job *it)
 {
-    it->answer |= PGMS[it->which]->write_pgm(it->side, it->side, it->picture, it->pixels, it->file, sizeof it->file,
-                                             &it->size);
+    it->answer |= PGMS[it->which]->write_pgm(it->settings.columns, it->settings.rows, it->picture, it->pixels, it->file,
+                                             sizeof it->file, &it->size);
 }
 
 static void reading(struct job *it)

@@ -2,8 +2,6 @@
  * columns, one rounding by a constant, and edges outside the inner loops. */
 #include "plain.h"
 
-#include <string.h>
-
 /* Added before a division and taken off after it, so that what is divided is never negative. */
 enum { LIFT = 1 << 20 };
 
@@ -152,71 +150,91 @@ static void index_and_rebuild_level(int32_t *values, int columns, int rows, int 
     }
 }
 
-static uint16_t lengths_refusal(uint16_t columns, uint16_t rows, uint16_t depth, size_t picture_length,
-                                size_t levels_length, size_t work_length)
+static uint16_t lengths_refusal(const lepsarvu_settings *s, size_t picture_length, size_t levels_length,
+                                size_t work_length)
 {
-    size_t nodes = fast_nodes(columns, rows, depth);
-    if (picture_length != (size_t)columns * rows)
+    size_t nodes = fast_nodes(s);
+    if (picture_length != fast_level_nodes(s, 0))
         return 5;
     if (levels_length != nodes)
         return 6;
     return work_length < nodes ? 7 : 0;
 }
 
-static uint16_t coding(uint16_t columns, uint16_t rows, uint16_t depth, uint16_t kernel, const uint16_t bins[7],
-                       const uint8_t *picture, size_t picture_length, int16_t *levels, size_t levels_length,
-                       int32_t *work, size_t work_length)
+/* Of both codings: the settings, the lengths, and last of all the pixels. */
+static uint16_t coding_refusal(const lepsarvu_settings *s, const uint8_t *picture, size_t picture_length,
+                               size_t levels_length, size_t work_length)
 {
-    uint16_t refusal = fast_settings_refusal(columns, rows, depth, kernel, bins);
+    uint16_t refusal = fast_settings_refusal(s);
     if (!refusal)
-        refusal = lengths_refusal(columns, rows, depth, picture_length, levels_length, work_length);
+        refusal = lengths_refusal(s, picture_length, levels_length, work_length);
+    if (!refusal && !fast_pixels_ok(s, picture, picture_length))
+        refusal = 20;
+    return refusal;
+}
+
+static int width_of(const lepsarvu_settings *s, unsigned level)
+{
+    return ((s->columns - 1) >> level) + 1;
+}
+
+static int height_of(const lepsarvu_settings *s, unsigned level)
+{
+    return ((s->rows - 1) >> level) + 1;
+}
+
+static void widen(const uint8_t *restrict picture, size_t length, int32_t *restrict values)
+{
+    for (size_t at = 0; at < length; at++)
+        values[at] = picture[at];
+}
+
+static uint16_t coding(const lepsarvu_settings *s, const uint8_t *picture, size_t picture_length, int16_t *levels,
+                       size_t levels_length, int32_t *work, size_t work_length)
+{
+    uint16_t refusal = coding_refusal(s, picture, picture_length, levels_length, work_length);
     if (refusal)
         return refusal;
     size_t at = levels_length - picture_length;
-    for (size_t pixel = 0; pixel < picture_length; pixel++)
-        work[at + pixel] = picture[pixel];
-    for (unsigned level = 0; level <= depth; level++) {
-        int width = ((columns - 1) >> level) + 1, height = ((rows - 1) >> level) + 1;
-        size_t up = level < depth ? at - fast_level_nodes(columns, rows, level + 1) : 0;
-        if (level < depth)
-            reduce(work + at, width, height, kernel, work + up);
-        index_level(work + at, width, height, kernel, bins[level], level < depth ? work + up : NULL, levels + at);
+    widen(picture, picture_length, work + at);
+    for (unsigned level = 0; level <= s->depth; level++) {
+        int width = width_of(s, level), height = height_of(s, level);
+        size_t up = level < s->depth ? at - fast_level_nodes(s, level + 1) : 0;
+        if (level < s->depth)
+            reduce(work + at, width, height, s->kernel, work + up);
+        index_level(work + at, width, height, s->kernel, s->bins[level], level < s->depth ? work + up : NULL,
+                    levels + at);
         at = up;
     }
     return 0;
 }
 
 /* The averages of all levels, the picture's last. */
-static void average_levels(uint16_t columns, uint16_t rows, uint16_t depth, int k, const uint8_t *picture,
-                           int32_t *work)
+static void average_levels(const lepsarvu_settings *s, const uint8_t *picture, int32_t *work)
 {
-    size_t pixels = fast_level_nodes(columns, rows, 0), at = fast_nodes(columns, rows, depth) - pixels;
-    for (size_t pixel = 0; pixel < pixels; pixel++)
-        work[at + pixel] = picture[pixel];
-    for (unsigned level = 0; level < depth; level++) {
-        size_t up = at - fast_level_nodes(columns, rows, level + 1);
-        reduce(work + at, ((columns - 1) >> level) + 1, ((rows - 1) >> level) + 1, k, work + up);
+    size_t pixels = fast_level_nodes(s, 0), at = fast_nodes(s) - pixels;
+    widen(picture, pixels, work + at);
+    for (unsigned level = 0; level < s->depth; level++) {
+        size_t up = at - fast_level_nodes(s, level + 1);
+        reduce(work + at, width_of(s, level), height_of(s, level), s->kernel, work + up);
         at = up;
     }
 }
 
-static uint16_t closed_loop_coding(uint16_t columns, uint16_t rows, uint16_t depth, uint16_t kernel,
-                                   const uint16_t bins[7], const uint8_t *picture, size_t picture_length,
+static uint16_t closed_loop_coding(const lepsarvu_settings *s, const uint8_t *picture, size_t picture_length,
                                    int16_t *levels, size_t levels_length, int32_t *work, size_t work_length)
 {
-    uint16_t refusal = fast_settings_refusal(columns, rows, depth, kernel, bins);
-    if (!refusal)
-        refusal = lengths_refusal(columns, rows, depth, picture_length, levels_length, work_length);
+    uint16_t refusal = coding_refusal(s, picture, picture_length, levels_length, work_length);
     if (refusal)
         return refusal;
-    average_levels(columns, rows, depth, kernel, picture, work);
+    average_levels(s, picture, work);
     size_t at = 0;
     const int32_t *above = NULL;
-    for (unsigned level = depth + 1u; level-- > 0;) {
-        int width = ((columns - 1) >> level) + 1, height = ((rows - 1) >> level) + 1;
-        index_and_rebuild_level(work + at, width, height, kernel, bins[level], above, levels + at);
+    for (unsigned level = s->depth + 1u; level-- > 0;) {
+        index_and_rebuild_level(work + at, width_of(s, level), height_of(s, level), s->kernel, s->bins[level], above,
+                                levels + at);
         above = work + at;
-        at += (size_t)width * (size_t)height;
+        at += fast_level_nodes(s, level);
     }
     return 0;
 }
@@ -233,35 +251,41 @@ static void rebuild_level(const int16_t *indices, int columns, int rows, int k, 
     }
 }
 
-static void clamp(const int32_t *restrict values, size_t length, uint8_t *restrict picture)
+/* To bytes first, by constants; the smaller and the larger of two bytes are then single instructions. */
+static void clamp(const int32_t *restrict values, size_t length, uint8_t black, uint8_t white,
+                  uint8_t *restrict picture)
 {
     for (size_t at = 0; at < length; at++) {
         int32_t value = values[at] < 0 ? 0 : values[at];
         picture[at] = (uint8_t)(value > 255 ? 255 : value);
     }
+    for (size_t at = 0; at < length; at++) {
+        uint8_t pixel = picture[at] < black ? black : picture[at];
+        picture[at] = pixel > white ? white : pixel;
+    }
 }
 
-static uint16_t rebuilding(uint16_t columns, uint16_t rows, uint16_t depth, uint16_t kernel, const uint16_t bins[7],
-                           const int16_t *levels, size_t levels_length, uint8_t *picture, size_t picture_length,
-                           int32_t *work, size_t work_length)
+static uint16_t rebuilding(const lepsarvu_settings *s, const int16_t *levels, size_t levels_length, uint8_t *picture,
+                           size_t picture_length, int32_t *work, size_t work_length)
 {
-    uint16_t refusal = fast_settings_refusal(columns, rows, depth, kernel, bins);
+    uint16_t refusal = fast_settings_refusal(s);
     if (!refusal)
-        refusal = lengths_refusal(columns, rows, depth, picture_length, levels_length, work_length);
+        refusal = lengths_refusal(s, picture_length, levels_length, work_length);
     if (refusal)
         return refusal;
-    if (!fast_values_ok(columns, rows, depth, bins, levels))
+    if (!fast_values_ok(s, levels))
         return 11;
-    size_t at = 0, next = fast_level_nodes(columns, rows, depth);
+    size_t at = 0, next = fast_level_nodes(s, s->depth);
+    int top_bin = s->bins[s->depth];
     for (size_t node = 0; node < next; node++)
-        work[node] = levels[node] * bins[depth];
-    for (unsigned level = depth; level-- > 0;) {
-        int width = ((columns - 1) >> level) + 1, height = ((rows - 1) >> level) + 1;
-        rebuild_level(levels + next, width, height, kernel, bins[level], work + at, work + next);
+        work[node] = levels[node] * top_bin;
+    for (unsigned level = s->depth; level-- > 0;) {
+        rebuild_level(levels + next, width_of(s, level), height_of(s, level), s->kernel, s->bins[level], work + at,
+                      work + next);
         at = next;
-        next += (size_t)width * (size_t)height;
+        next += fast_level_nodes(s, level);
     }
-    clamp(work + at, picture_length, picture);
+    clamp(work + at, picture_length, (uint8_t)s->black, (uint8_t)s->white, picture);
     return 0;
 }
 

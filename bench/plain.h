@@ -4,20 +4,22 @@
 
 #include "../tests/host/functions.h"
 
-enum { SLOTS = 7, MOST_SIDE = 129, MOST_VALUE = 4096 };
+enum { MOST_SIDE = 129, MOST_VALUE = 4096 };
 
 extern const struct pyramid_calls fast_pyramid;
 extern const struct file_calls fast_file;
 extern const struct pgm_calls fast_pgm;
 
-/* Shared by the two parts. */
-uint16_t fast_shape_refusal(uint16_t columns, uint16_t rows, uint16_t depth, uint16_t kernel);
-uint16_t fast_settings_refusal(uint16_t columns, uint16_t rows, uint16_t depth, uint16_t kernel,
-                               const uint16_t bins[7]);
-size_t fast_level_nodes(uint16_t columns, uint16_t rows, unsigned level);
-size_t fast_nodes(uint16_t columns, uint16_t rows, uint16_t depth);
+/* Shared by the two parts. What the shape section of a file says: all but the bins. */
+uint16_t fast_shape_refusal(const lepsarvu_settings *s);
+uint16_t fast_settings_refusal(const lepsarvu_settings *s);
+size_t fast_level_nodes(const lepsarvu_settings *s, unsigned level);
+size_t fast_nodes(const lepsarvu_settings *s);
+
+/* Every pixel lies between black and white. */
+int fast_pixels_ok(const lepsarvu_settings *s, const uint8_t *picture, size_t length);
 
 /* Every index of every level times its bin is within 4,096 either way. */
-int fast_values_ok(uint16_t columns, uint16_t rows, uint16_t depth, const uint16_t bins[7], const int16_t *levels);
+int fast_values_ok(const lepsarvu_settings *s, const int16_t *levels);
 
 #endif

@@ -1,46 +1,60 @@
 /* Checks of arguments, for the pyramid and for the file. */
 #include "plain.h"
 
-uint16_t fast_shape_refusal(uint16_t columns, uint16_t rows, uint16_t depth, uint16_t kernel)
+uint16_t fast_shape_refusal(const lepsarvu_settings *s)
 {
-    if (columns < 2 || columns > MOST_SIDE || rows < 2 || rows > MOST_SIDE)
+    if (s->columns < 2 || s->columns > MOST_SIDE || s->rows < 2 || s->rows > MOST_SIDE)
         return 1;
-    if (depth >= SLOTS)
+    if (s->depth >= LEPSARVU_SLOTS)
         return 13;
-    unsigned low_bits = (1u << depth) - 1;
-    if (((unsigned)columns - 1) & low_bits)
+    unsigned low_bits = (1u << s->depth) - 1;
+    if ((s->columns - 1u) & low_bits)
         return 14;
-    if (((unsigned)rows - 1) & low_bits)
+    if ((s->rows - 1u) & low_bits)
         return 15;
-    return kernel < 3 || kernel > 6 ? 2 : 0;
+    if (s->kernel < 3 || s->kernel > 6)
+        return 2;
+    return s->black < s->white && s->white <= 255 ? 0 : 19;
 }
 
-uint16_t fast_settings_refusal(uint16_t columns, uint16_t rows, uint16_t depth, uint16_t kernel,
-                               const uint16_t bins[7])
+uint16_t fast_settings_refusal(const lepsarvu_settings *s)
 {
-    uint16_t refusal = fast_shape_refusal(columns, rows, depth, kernel);
+    uint16_t refusal = fast_shape_refusal(s);
     if (refusal)
         return refusal;
-    for (unsigned slot = 0; slot < SLOTS; slot++)
-        if (slot <= depth ? bins[slot] < 1 || bins[slot] > 255 : bins[slot] != 0)
+    for (unsigned slot = 0; slot < LEPSARVU_SLOTS; slot++)
+        if (slot <= s->depth ? s->bins[slot] < 1 || s->bins[slot] > 255 : s->bins[slot] != 0)
             return 3;
     return 0;
 }
 
-size_t fast_level_nodes(uint16_t columns, uint16_t rows, unsigned level)
+size_t fast_level_nodes(const lepsarvu_settings *s, unsigned level)
 {
-    return ((((size_t)columns - 1) >> level) + 1) * ((((size_t)rows - 1) >> level) + 1);
+    return (((s->columns - (size_t)1) >> level) + 1) * (((s->rows - (size_t)1) >> level) + 1);
 }
 
-size_t fast_nodes(uint16_t columns, uint16_t rows, uint16_t depth)
+size_t fast_nodes(const lepsarvu_settings *s)
 {
     size_t nodes = 0;
-    for (unsigned level = 0; level <= depth; level++)
-        nodes += fast_level_nodes(columns, rows, level);
+    for (unsigned level = 0; level <= s->depth; level++)
+        nodes += fast_level_nodes(s, level);
     return nodes;
 }
 
-/* By the smallest and the largest, so that no index ends the loop early. */
+/* By the smallest and the largest, so that no pixel ends the loop early. Every byte lies between 0 and 255. */
+int fast_pixels_ok(const lepsarvu_settings *s, const uint8_t *picture, size_t length)
+{
+    uint8_t smallest = 255, largest = 0;
+    if (s->black == 0 && s->white == 255)
+        return 1;
+    for (size_t at = 0; at < length; at++) {
+        smallest = picture[at] < smallest ? picture[at] : smallest;
+        largest = picture[at] > largest ? picture[at] : largest;
+    }
+    return smallest >= s->black && largest <= s->white;
+}
+
+/* By the smallest and the largest here too. */
 static int values_within(const int16_t *indices, size_t length, int bin)
 {
     int16_t smallest = 0, largest = 0;
@@ -51,11 +65,11 @@ static int values_within(const int16_t *indices, size_t length, int bin)
     return smallest * bin >= -MOST_VALUE && largest * bin <= MOST_VALUE;
 }
 
-int fast_values_ok(uint16_t columns, uint16_t rows, uint16_t depth, const uint16_t bins[7], const int16_t *levels)
+int fast_values_ok(const lepsarvu_settings *s, const int16_t *levels)
 {
-    for (unsigned level = depth + 1u; level-- > 0;) {
-        size_t nodes = fast_level_nodes(columns, rows, level);
-        if (!values_within(levels, nodes, bins[level]))
+    for (unsigned level = s->depth + 1u; level-- > 0;) {
+        size_t nodes = fast_level_nodes(s, level);
+        if (!values_within(levels, nodes, s->bins[level]))
             return 0;
         levels += nodes;
     }

@@ -1,36 +1,44 @@
 /* The bale file in plain C: see plain.h. */
-#include <string.h>
-
 #include "plain.h"
 
-enum { NOTE_BYTES = 26, FAULTS = 255 };
+enum { FAULTS = 255, SHAPE_ITEMS = 4, LONG_SHAPE_ITEMS = 6 };
 static const uint32_t HUNDRED_PERCENT = 0x42C80000; /* floats with a clear sign bit are ordered as their bits are */
 
-static size_t size_of(uint16_t columns, uint16_t rows, uint16_t depth)
+/* The shape section says black and white where they are not 0 and 255. */
+static unsigned shape_items(const lepsarvu_settings *s)
 {
-    return 24 + 4 * ((size_t)depth + 1) + 2 * fast_nodes(columns, rows, depth);
+    return s->black == 0 && s->white == 255 ? SHAPE_ITEMS : LONG_SHAPE_ITEMS;
 }
 
-static int reading_ok(uint8_t kind, uint32_t number)
+static size_t size_of(const lepsarvu_settings *s)
 {
-    switch (kind) {
-    case 0:
-        return number == 0;
-    case 1:
-        return number <= HUNDRED_PERCENT;
-    case 2:
-        return number >= 1 && number <= FAULTS;
+    return 16 + 2 * (size_t)shape_items(s) + 4 * ((size_t)s->depth + 1) + 2 * fast_nodes(s);
+}
+
+static int reading_ok(lepsarvu_reading it)
+{
+    switch (it.kind) {
+    case LEPSARVU_NOT_FITTED:
+        return it.number == 0;
+    case LEPSARVU_PERCENTAGE:
+        return it.number <= HUNDRED_PERCENT;
+    case LEPSARVU_FAULT:
+        return it.number >= 1 && it.number <= FAULTS;
     default:
         return 0;
     }
 }
 
-static uint16_t file_size(uint16_t columns, uint16_t rows, uint16_t depth, uint16_t kernel, const uint16_t bins[7],
-                          size_t *size)
+static int note_ok(const lepsarvu_note *it)
 {
-    uint16_t refusal = fast_settings_refusal(columns, rows, depth, kernel, bins);
+    return reading_ok(it->before_drier) && reading_ok(it->at_press);
+}
+
+static uint16_t file_size(const lepsarvu_settings *s, size_t *size)
+{
+    uint16_t refusal = fast_settings_refusal(s);
     if (!refusal)
-        *size = size_of(columns, rows, depth);
+        *size = size_of(s);
     return refusal;
 }
 
@@ -41,40 +49,42 @@ static uint8_t *put2(uint8_t *to, unsigned number)
     return to + 2;
 }
 
-static uint8_t *put_reading(uint8_t *to, uint8_t kind, uint32_t number)
+static uint8_t *put_reading(uint8_t *to, lepsarvu_reading it)
 {
-    *to = kind;
-    return put2(put2(to + 1, number), number >> 16);
+    *to = (uint8_t)it.kind;
+    return put2(put2(to + 1, it.number), it.number >> 16);
 }
 
-static unsigned get2(const uint8_t *from)
+/* The sections before those of the levels. */
+static uint8_t *put_settings_and_note(uint8_t *to, const lepsarvu_settings *s, const lepsarvu_note *note)
 {
-    return from[0] | (unsigned)from[1] << 8;
+    unsigned items = shape_items(s);
+    to = put2(put2(put2(put2(put2(to, items), s->columns), s->rows), s->depth), s->kernel);
+    if (items == LONG_SHAPE_ITEMS)
+        to = put2(put2(to, s->black), s->white);
+    to = put2(to, s->depth + 1u);
+    for (unsigned level = s->depth + 1u; level-- > 0;)
+        to = put2(to, s->bins[level]);
+    return put_reading(put_reading(put2(to, 2), note->before_drier), note->at_press);
 }
 
-static uint16_t write_file(uint16_t columns, uint16_t rows, uint16_t depth, uint16_t kernel, const uint16_t bins[7],
-                           uint8_t drier_kind, uint32_t drier_number, uint8_t press_kind, uint32_t press_number,
-                           const int16_t *restrict levels, size_t levels_length, uint8_t *restrict file,
-                           size_t file_length, size_t *size)
+static uint16_t write_file(const lepsarvu_settings *s, const lepsarvu_note *note, const int16_t *restrict levels,
+                           size_t levels_length, uint8_t *restrict file, size_t file_length, size_t *size)
 {
-    uint16_t refusal = fast_settings_refusal(columns, rows, depth, kernel, bins);
+    uint16_t refusal = fast_settings_refusal(s);
     if (refusal)
         return refusal;
-    if (!reading_ok(drier_kind, drier_number) || !reading_ok(press_kind, press_number))
+    if (!note_ok(note))
         return 4;
-    if (levels_length != fast_nodes(columns, rows, depth))
+    if (levels_length != fast_nodes(s))
         return 6;
-    if (file_length < size_of(columns, rows, depth))
+    if (file_length < size_of(s))
         return 8;
-    if (!fast_values_ok(columns, rows, depth, bins, levels))
+    if (!fast_values_ok(s, levels))
         return 11;
-    uint8_t *to = put2(put2(put2(put2(put2(file, 4), columns), rows), depth), kernel);
-    to = put2(to, depth + 1u);
-    for (unsigned level = depth + 1u; level-- > 0;)
-        to = put2(to, bins[level]);
-    to = put_reading(put_reading(put2(to, 2), drier_kind, drier_number), press_kind, press_number);
-    for (unsigned level = depth + 1u; level-- > 0;) {
-        size_t nodes = fast_level_nodes(columns, rows, level);
+    uint8_t *to = put_settings_and_note(file, s, note);
+    for (unsigned level = s->depth + 1u; level-- > 0;) {
+        size_t nodes = fast_level_nodes(s, level);
         to = put2(to, (unsigned)nodes);
         for (size_t at = 0; at < nodes; at++)
             put2(to + 2 * at, (uint16_t)levels[at]);
@@ -85,49 +95,80 @@ static uint16_t write_file(uint16_t columns, uint16_t rows, uint16_t depth, uint
     return 0;
 }
 
+static unsigned get2(const uint8_t *from)
+{
+    return from[0] | (unsigned)from[1] << 8;
+}
+
+/* What a file says before its levels, and where the part that is not looked at yet begins and ends. */
+struct bale {
+    lepsarvu_settings settings;
+    lepsarvu_note note;
+    const uint8_t *from, *end;
+};
+
 /* A section's count is there and right, and its items are there. */
-static uint16_t section_refusal(const uint8_t *from, const uint8_t *end, size_t count, size_t item_bytes)
+static uint16_t section_refusal(const struct bale *it, size_t count, size_t item_bytes)
 {
-    if (end - from < 2)
+    size_t left = (size_t)(it->end - it->from);
+    if (left < 2)
         return 9;
-    if (get2(from) != count)
+    if (get2(it->from) != count)
         return 10;
-    return (size_t)(end - from) - 2 < count * item_bytes ? 9 : 0;
+    return left - 2 < count * item_bytes ? 9 : 0;
 }
 
-static uint16_t shape_of(const uint8_t *file, const uint8_t *end, uint16_t shape[4])
+/* A count of six is right where its items do not say what four say too. */
+static uint16_t take_shape(struct bale *it)
 {
-    uint16_t refusal = section_refusal(file, end, 4, 2);
+    lepsarvu_settings *s = &it->settings;
+    const uint8_t *from = it->from;
+    int is_long = it->end - from >= 2 && get2(from) == LONG_SHAPE_ITEMS;
+    unsigned items = is_long ? LONG_SHAPE_ITEMS : SHAPE_ITEMS;
+    uint16_t refusal = section_refusal(it, items, 2);
     if (refusal)
         return refusal;
-    for (int item = 0; item < 4; item++)
-        shape[item] = (uint16_t)get2(file + 2 + 2 * item);
-    return fast_shape_refusal(shape[0], shape[1], shape[2], shape[3]);
+    s->columns = (uint16_t)get2(from + 2);
+    s->rows = (uint16_t)get2(from + 4);
+    s->depth = (uint16_t)get2(from + 6);
+    s->kernel = (uint16_t)get2(from + 8);
+    s->black = is_long ? (uint16_t)get2(from + 10) : 0;
+    s->white = is_long ? (uint16_t)get2(from + 12) : 255;
+    if (items != shape_items(s))
+        return 10;
+    it->from += 2 + 2 * items;
+    return fast_shape_refusal(s);
 }
 
-static uint16_t bins_of(const uint8_t *from, const uint8_t *end, unsigned depth, uint16_t bins[7])
+static uint16_t take_bins(struct bale *it)
 {
-    uint16_t refusal = section_refusal(from, end, depth + 1, 2);
-    for (unsigned level = depth + 1; !refusal && level-- > 0;) {
-        from += 2;
-        bins[level] = (uint16_t)get2(from);
-        if (bins[level] < 1 || bins[level] > 255)
+    unsigned count = it->settings.depth + 1u;
+    uint16_t refusal = section_refusal(it, count, 2);
+    if (refusal)
+        return refusal;
+    it->from += 2;
+    for (unsigned level = count; level-- > 0; it->from += 2) {
+        unsigned bin = get2(it->from);
+        if (bin < 1 || bin > 255)
             return 3;
+        it->settings.bins[level] = (uint16_t)bin;
     }
-    return refusal;
+    return 0;
 }
 
-static uint16_t readings_of(const uint8_t *from, const uint8_t *end, uint8_t kinds[2], uint32_t numbers[2])
+static lepsarvu_reading reading_at(const uint8_t *from)
 {
-    uint16_t refusal = section_refusal(from, end, 2, 5);
+    return (lepsarvu_reading){.kind = from[0], .number = get2(from + 1) | (uint32_t)get2(from + 3) << 16};
+}
+
+static uint16_t take_note(struct bale *it)
+{
+    uint16_t refusal = section_refusal(it, 2, 5);
     if (refusal)
         return refusal;
-    from += 2;
-    for (int reading = 0; reading < 2; reading++, from += 5) {
-        kinds[reading] = from[0];
-        numbers[reading] = get2(from + 1) | (uint32_t)get2(from + 3) << 16;
-    }
-    return reading_ok(kinds[0], numbers[0]) && reading_ok(kinds[1], numbers[1]) ? 0 : 4;
+    it->note = (lepsarvu_note){.before_drier = reading_at(it->from + 2), .at_press = reading_at(it->from + 7)};
+    it->from += 12;
+    return note_ok(&it->note) ? 0 : 4;
 }
 
 static int items_ok(const uint8_t *from, size_t nodes, int bin)
@@ -141,85 +182,67 @@ static int items_ok(const uint8_t *from, size_t nodes, int bin)
     return smallest * bin >= -MOST_VALUE && largest * bin <= MOST_VALUE;
 }
 
-static uint16_t levels_refusal(const uint8_t *from, const uint8_t *end, const uint16_t shape[4],
-                               const uint16_t bins[7])
+/* Looks at all levels; the copy of `it` goes on to the end of the file. */
+static uint16_t levels_refusal(struct bale it)
 {
-    for (unsigned level = shape[2] + 1u; level-- > 0;) {
-        size_t nodes = fast_level_nodes(shape[0], shape[1], level);
-        uint16_t refusal = section_refusal(from, end, nodes, 2);
+    for (unsigned level = it.settings.depth + 1u; level-- > 0;) {
+        size_t nodes = fast_level_nodes(&it.settings, level);
+        uint16_t refusal = section_refusal(&it, nodes, 2);
         if (refusal)
             return refusal;
-        if (!items_ok(from + 2, nodes, bins[level]))
+        if (!items_ok(it.from + 2, nodes, it.settings.bins[level]))
             return 11;
-        from += 2 + 2 * nodes;
+        it.from += 2 + 2 * nodes;
     }
-    return from == end ? 0 : 12;
+    return it.from == it.end ? 0 : 12;
 }
 
-static void take_levels(const uint8_t *restrict from, const uint16_t shape[4], int16_t *restrict levels)
+static void take_level(const uint8_t *restrict from, size_t nodes, int16_t *restrict indices)
 {
-    for (unsigned level = shape[2] + 1u; level-- > 0;) {
-        size_t nodes = fast_level_nodes(shape[0], shape[1], level);
-        from += 2;
-        for (size_t at = 0; at < nodes; at++)
-            levels[at] = (int16_t)get2(from + 2 * at);
-        from += 2 * nodes;
-        levels += nodes;
-    }
+    for (size_t at = 0; at < nodes; at++)
+        indices[at] = (int16_t)get2(from + 2 * at);
 }
 
-/* What a file says before its levels. */
-struct note {
-    uint16_t shape[4], bins[7];
-    uint8_t kinds[2];
-    uint32_t numbers[2];
-};
-
-static uint16_t read_refusal(const uint8_t *file, size_t length, const size_t *levels_length, struct note *it)
+/* Leaves all before the levels in `it`; a length of a level buffer is looked at where one is lent. */
+static uint16_t read_refusal(const uint8_t *file, size_t length, const size_t *levels_length, struct bale *it)
 {
-    const uint8_t *end = file + length;
-    uint16_t refusal = shape_of(file, end, it->shape);
-    if (refusal)
-        return refusal;
-    if (levels_length && *levels_length != fast_nodes(it->shape[0], it->shape[1], it->shape[2]))
-        return 6;
-    unsigned depth = it->shape[2];
-    refusal = bins_of(file + 10, end, depth, it->bins);
+    *it = (struct bale){.from = file, .end = file + length};
+    uint16_t refusal = take_shape(it);
+    if (!refusal && levels_length && *levels_length != fast_nodes(&it->settings))
+        refusal = 6;
     if (!refusal)
-        refusal = readings_of(file + 14 + 2 * depth, end, it->kinds, it->numbers);
+        refusal = take_bins(it);
     if (!refusal)
-        refusal = levels_refusal(file + NOTE_BYTES + 2 * depth, end, it->shape, it->bins);
-    return refusal;
-}
-
-static void hand_out(const struct note *it, uint16_t shape[4], uint16_t bins[7], uint8_t kinds[2],
-                     uint32_t numbers[2])
-{
-    memcpy(shape, it->shape, sizeof it->shape);
-    memcpy(bins, it->bins, sizeof it->bins);
-    memcpy(kinds, it->kinds, sizeof it->kinds);
-    memcpy(numbers, it->numbers, sizeof it->numbers);
+        refusal = take_note(it);
+    return refusal ? refusal : levels_refusal(*it);
 }
 
 static uint16_t read_file(const uint8_t *file, size_t file_length, int16_t *levels, size_t levels_length,
-                          uint16_t shape[4], uint16_t bins[7], uint8_t kinds[2], uint32_t numbers[2])
+                          lepsarvu_settings *settings, lepsarvu_note *note)
 {
-    struct note it = {{0}, {0}, {0}, {0}};
+    struct bale it;
     uint16_t refusal = read_refusal(file, file_length, &levels_length, &it);
     if (refusal)
         return refusal;
-    take_levels(file + NOTE_BYTES + 2 * it.shape[2], it.shape, levels);
-    hand_out(&it, shape, bins, kinds, numbers);
+    for (unsigned level = it.settings.depth + 1u; level-- > 0;) {
+        size_t nodes = fast_level_nodes(&it.settings, level);
+        take_level(it.from + 2, nodes, levels);
+        it.from += 2 + 2 * nodes;
+        levels += nodes;
+    }
+    *settings = it.settings;
+    *note = it.note;
     return 0;
 }
 
-static uint16_t check_file(const uint8_t *file, size_t file_length, uint16_t shape[4], uint16_t bins[7],
-                           uint8_t kinds[2], uint32_t numbers[2])
+static uint16_t check_file(const uint8_t *file, size_t file_length, lepsarvu_settings *settings, lepsarvu_note *note)
 {
-    struct note it = {{0}, {0}, {0}, {0}};
+    struct bale it;
     uint16_t refusal = read_refusal(file, file_length, NULL, &it);
-    if (!refusal)
-        hand_out(&it, shape, bins, kinds, numbers);
+    if (!refusal) {
+        *settings = it.settings;
+        *note = it.note;
+    }
     return refusal;
 }
 
