@@ -1,7 +1,7 @@
 -- Laws of tests: what a passed test says, a rule that one computed test proves at each number below a bound, and tests of joined lists, of
--- what is left of a list and of images. Assumes nothing.
-use mathlib.Core.Path.{◌≡◌, refl, sym, subst}
-use mathlib.Core.Bool.{Bool, true, false, not, cond, ◌&&◌, and_assoc}
+-- what is left of a list and of images, and a loop that tests one element a turn. Assumes nothing.
+use mathlib.Core.Path.{◌≡◌, refl, sym, ◌∙◌, subst}
+use mathlib.Core.Bool.{Bool, true, false, not, cond, ◌&&◌, and_assoc, and-true}
 use mathlib.Core.List.{List, [], ◌∷◌, ◌++◌, map}
 use Prim.Native.Nat.{ℕ, zero, suc, ◌+◌, ◌-◌, ◌≤◌, ◌<◌}
 use native.Mathlib.Nat.{not-suc-le-zero}
@@ -92,6 +92,32 @@ module _ {A : Type 0} (test : A → Bool) where
 
   pub all_past : (xs : List A) (i : ℕ) → length xs ≤ i → all test (drop i xs) ≡ true
   all_past xs i h = rw (drop_of_length-le xs {i = i} h) all_nil
+
+  -- at each place
+  pub all_inside : (d : A) (xs : List A) → T (all test xs) → (p : ℕ) → p < length xs → T (test (get_or xs p d))
+  unfolding all
+  all_inside d [] t p h = absurd (not-suc-le-zero h)
+  all_inside d (x ∷ xs) t zero h = (both (test x) (all test xs) t).0
+  all_inside d (x ∷ xs) t (suc p) h = all_inside d xs (both (test x) (all test xs) t).1 p (omega (arith, h))
+
+  pub inside_all : (d : A) (xs : List A) → ((p : ℕ) → p < length xs → T (test (get_or xs p d))) → T (all test xs)
+  unfolding all
+  inside_all d [] h = tt
+  inside_all d (x ∷ xs) h = both_of (test x) (all test xs) (h 0 (omega arith)) (inside_all d xs (λ p k. h (suc p) (omega (arith, k))))
+
+  -- a loop: `passed` says whether those before i pass
+  pub record Testing (xs : List A) (i : ℕ) (passed : Bool) : Type 0 where
+    pub rest : all test xs ≡ (passed && all test (drop i xs))
+
+  pub testing_start : (xs : List A) → Testing xs 0 true
+  testing_start xs = record { rest = refl }
+
+  pub testing_next : {xs : List A} {i : ℕ} {passed now : Bool} (d : A) → Testing xs i passed → i < length xs → now ≡ (passed && test (get_or xs i d)) → Testing xs (i + 1) now
+  testing_next {xs} {i} {passed} d r h e =
+      record { rest = r.rest ∙ rw (all-next xs i d h, e) (sym (and_assoc passed (test (get_or xs i d)) (all test (drop (i + 1) xs)))) }
+
+  pub testing_end : {xs : List A} {i : ℕ} {passed : Bool} → Testing xs i passed → length xs ≤ i → passed ≡ all test xs
+  testing_end {xs} {i} {passed} r h = sym (rw (all_past xs i h, and-true passed) at r.rest)
 
 -- the images of a list's elements
 pub all_map : {A B : Type 0} (g : A → B) (test : B → Bool) (xs : List A) → all test (map g xs) ≡ all (λ x. test (g x)) xs

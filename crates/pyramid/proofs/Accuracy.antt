@@ -5,9 +5,9 @@ use mathlib.Core.List.{List, [], ◌∷◌, append-nil}
 use Prim.Native.Nat.{ℕ, zero, suc, ◌+◌, ◌*◌, ◌≤◌, ◌<◌}
 use native.Mathlib.Omega.{arith}
 use native.Mathlib.Decide.{dec_lt}
-use lib.IntN.{ℤ, pos, negsuc}
+use lib.IntN.{ℤ}
 use lib.ListN.{length, get_or, get_or-eq_default}
-use Rattle.mathematics.proofs.Distance.{Near, near_pos, near_negative}
+use Rattle.mathematics.proofs.Distance.{Near}
 use Rattle.mathematics.specs.Definitions.Distances.{distance}
 use Rattle.pyramid.specs.declared.Settings.{Settings}
 use Rattle.pyramid.specs.declared.Manner.{Manner}
@@ -16,28 +16,17 @@ use Rattle.pyramid.specs.Definitions.Pyramid.{average}
 use Rattle.pyramid.specs.Definitions.Rebuilding.{rebuilt, clamp}
 use Rattle.pyramid.specs.Definitions.Manners.{index}
 use Rattle.pyramid.specs.Definitions.Bound.{bound_at}
-use Rattle.pyramid.specs.Definitions.Buffers.{Bytes, raster, pixels, read_levels}
+use Rattle.pyramid.specs.Definitions.Buffers.{raster, pixels, read_levels}
 use Rattle.pyramid.specs.Definitions.Calls.{leaves, coding, rebuilding}
 use Rattle.pyramid.specs.Definitions.Generations.{Generation, coded, rebuilt_from, outcome, left_by, counted_bound, at_hand, bound_sum}
 use Rattle.pyramid.specs.Theorems.Accuracy.{LevelsWithin, Accuracy}
 use Rattle.pyramid.proofs.Sizes.{last-zero}
 use Rattle.pyramid.proofs.Within.{NearAt}
 use Rattle.pyramid.proofs.ClosedLoop.{rebuilt-near}
+use Rattle.pyramid.proofs.Clamps.{clamp_near, coded_pixel}
 use Rattle.pyramid.specs.Inner.Accepted.{Accepted}
 use Rattle.pyramid.proofs.Refusals.{first_nil, first_none, first_pass, accepted_coding, leaves_new}
-use Rattle.pyramid.proofs.Buffers.{length-raster, raster_at, by_place, read_stack}
-
--- ---- the clamp brings a value nearer to every byte
-
-clamp_near : (s : Settings) {e n : ℕ} (x : ℤ) → Near e x (pos n) → n < 256 → distance (clamp s x) n ≤ e
-unfolding clamp
-clamp_near s (pos m) near h = let (a, b) = near_pos near in omega arith
-clamp_near s (negsuc m) near h = let b = near_negative near in omega arith
-
-clamp_byte : (s : Settings) (x : ℤ) → clamp s x < 256
-unfolding clamp
-clamp_byte s (pos n) = omega arith
-clamp_byte s (negsuc n) = omega arith
+use Rattle.pyramid.proofs.Buffers.{inside, length-raster, raster_at, by_place, read_stack}
 
 -- ---- one accepted generation
 
@@ -105,30 +94,27 @@ module _ (picture : List ℕ) (g : Generation) where
             rw (get_or-eq_default (rebuilt_from picture g).picture 0 {n = q} (omega (arith, size, call.sized.picture_is)))
             (past q (omega (arith, call.sized.picture_is)))
 
-    moved : Bytes picture → (q : ℕ) → distance (get_or (rebuilt_from picture g).picture q 0) (get_or picture q 0) ≤ bound_at s g.manner 0
-    unfolding pixel average pixels
-    moved bytes = each_pixel (λ q b. distance b (get_or picture q 0) ≤ bound_at s g.manner 0)
-        (λ i j hi hj. clamp_near s (rebuilt s m 0 i j) (near 0 (omega arith) i j (omega (arith, last-zero s.columns)) (omega (arith, last-zero s.rows))) (bytes (j * s.columns + i)))
+    moved : (q : ℕ) → distance (get_or (rebuilt_from picture g).picture q 0) (get_or picture q 0) ≤ bound_at s g.manner 0
+    unfolding pixel average pixels coding
+    moved = each_pixel (λ q b. distance b (get_or picture q 0) ≤ bound_at s g.manner 0)
+        (λ i j hi hj.
+        let (black, white) = coded_pixel s picture g.levels g.work coded_ok (j * s.columns + i) (omega (arith, inside {columns = s.columns} {rows = s.rows} hi hj, call.sized.picture_is)) in
+        clamp_near s (rebuilt s m 0 i j) (near 0 (omega arith) i j (omega (arith, last-zero s.columns)) (omega (arith, last-zero s.rows))) black white)
         (λ q h. omega (arith, get_or-eq_default picture 0 {n = q} h))
-
-    still_bytes : Bytes (rebuilt_from picture g).picture
-    unfolding pixel
-    still_bytes = each_pixel (λ q b. b < 256) (λ i j hi hj. clamp_byte s (rebuilt s m 0 i j)) (λ q h. omega arith)
 
   -- ---- any generation
 
   record Step : Type 0 where
     same : length (left_by picture g) ≡ length picture
     near' : (q : ℕ) → distance (get_or (left_by picture g) q 0) (get_or picture q 0) ≤ counted_bound picture g
-    bytes : Bytes (left_by picture g)
 
-  step : Bytes picture → Step
+  step : Step
   unfolding left_by counted_bound leaves
-  step bytes = go (outcome picture g) refl
+  step = go (outcome picture g) refl
     where
       go : (a : ℕ) → outcome picture g ≡ a → Step
-      go zero e = record { same = rw e (size e); near' = rw e (moved e bytes); bytes = rw e (still_bytes e) }
-      go (suc n) e = record { same = rw e refl; near' = rw e (λ q. omega arith); bytes = rw e bytes }
+      go zero e = record { same = rw e (size e); near' = rw e (moved e) }
+      go (suc n) e = record { same = rw e refl; near' = rw e (λ q. omega arith) }
 
 -- ---- a rebuilding from the levels of a coding, both accepted
 
@@ -141,21 +127,18 @@ module _ (s : Settings) (manner : Manner) (picture : List ℕ) (levels work : Li
   unfolding outcome
   accepted = first_pass _ coded (first_pass _ rebuilt first_nil)
 
-  pub rebuilt_near : Bytes picture → (q : ℕ) → distance (get_or (rebuilding s (coding s manner picture levels work).levels target target_work).picture q 0) (get_or picture q 0) ≤ bound_at s manner 0
+  pub rebuilt_near : (q : ℕ) → distance (get_or (rebuilding s (coding s manner picture levels work).levels target target_work).picture q 0) (get_or picture q 0) ≤ bound_at s manner 0
   rebuilt_near = moved picture generation accepted
 
   pub rebuilt-size : length (rebuilding s (coding s manner picture levels work).levels target target_work).picture ≡ length picture
   rebuilt-size = size picture generation accepted
 
-  pub rebuilt_bytes : Bytes (rebuilding s (coding s manner picture levels work).levels target target_work).picture
-  rebuilt_bytes = still_bytes picture generation accepted
-
 -- ---- the list
 
-pub accuracy : (picture : List ℕ) → Bytes picture → (list : List Generation) → Accuracy picture list
+pub accuracy : (picture : List ℕ) (list : List Generation) → Accuracy picture list
 unfolding at_hand bound_sum
-accuracy picture bytes [] = record { size = refl; moved = λ q. omega arith; levels = tt }
-accuracy picture bytes (g ∷ later) =
-    let one : Step picture g = step picture g bytes in
-    let rest : Accuracy (left_by picture g) later = accuracy (left_by picture g) one.bytes later in
+accuracy picture [] = record { size = refl; moved = λ q. omega arith; levels = tt }
+accuracy picture (g ∷ later) =
+    let one : Step picture g = step picture g in
+    let rest : Accuracy (left_by picture g) later = accuracy (left_by picture g) later in
     record { size = rest.size ∙ one.same; moved = λ q. omega (arith, one.near' q, rest.moved q); levels = (levels_within picture g, rest.levels) }

@@ -17,7 +17,7 @@ use Rattle.pyramid.specs.Definitions.Pyramid.{expanded, average}
 use Rattle.pyramid.specs.Definitions.Rebuilding.{value_of, rebuild, rebuilt}
 use Rattle.pyramid.specs.Definitions.Manners.{quantized, closed_rebuilt, reference, index}
 use Rattle.pyramid.specs.Definitions.Bound.{tolerance, bound, bound_at}
-use Rattle.pyramid.specs.Definitions.Buffers.{Bytes, pixels, all_levels, read_levels}
+use Rattle.pyramid.specs.Definitions.Buffers.{pixels, all_levels, read_levels}
 use Rattle.pyramid.specs.Definitions.Calls.{coding, rebuilding}
 use Rattle.pyramid.specs.Theorems.ClosedLoop.{ReaderHas, ClosedLoops, NeverAbove}
 use Rattle.pyramid.specs.Inner.Accepted.{Accepted}
@@ -62,7 +62,7 @@ module _ (s : Settings) (law : Lawful s) where
 
 -- ---- what the reader will have
 
-module _ (s : Settings) (picture : List ℕ) (levels work : List ℤ) (target : List ℕ) (target_work : List ℤ) (bytes : Bytes picture)
+module _ (s : Settings) (picture : List ℕ) (levels work : List ℤ) (target : List ℕ) (target_work : List ℤ)
     (ok : (coding s ClosedLoop picture levels work).answer ≡ 0) where
   call : Accepted s picture levels work
   unfolding coding
@@ -108,10 +108,10 @@ module _ (s : Settings) (picture : List ℕ) (levels work : List ℤ) (target : 
       (near_closed s call.law g (s.depth - l) l (omega arith) i j (omega arith) (omega arith)).apart
 
   has : ReaderHas s picture levels work target target_work
-  has = record { same = same; near = near; lawful = never_eleven s ClosedLoop picture levels work bytes ok target target_work }
+  has = record { same = same; near = near; lawful = never_eleven s ClosedLoop picture levels work ok target target_work }
 
 pub closed_loops : ClosedLoops
-closed_loops s picture levels work target target_work bytes ok = has s picture levels work target target_work bytes ok
+closed_loops s picture levels work target target_work ok = has s picture levels work target target_work ok
 
 pub never_above : NeverAbove
 unfolding bound bound_at

@@ -14,14 +14,15 @@ use Rattle.pyramid.specs.Definitions.Sizes.{Level, columns_at, rows_at, total}
 use Rattle.pyramid.specs.Definitions.Pyramid.{average}
 use Rattle.pyramid.specs.Definitions.Rebuilding.{value_of}
 use Rattle.pyramid.specs.Definitions.Manners.{index}
-use Rattle.pyramid.specs.Definitions.Buffers.{Bytes, pixels, all_levels, read_levels}
-use Rattle.pyramid.specs.Definitions.Refusals.{unless, first, limit, settings_refusal, buffers_refusal, values_ok, coding_refusal}
+use Rattle.pyramid.specs.Definitions.Buffers.{pixels, all_levels, read_levels}
+use Rattle.pyramid.specs.Definitions.Refusals.{unless, first, limit, settings_refusal, buffers_refusal, values_ok, lent_refusal, pixels_ok, coding_refusal}
 use Rattle.pyramid.specs.Definitions.Calls.{coding, rebuilding}
 use Rattle.pyramid.specs.Inner.Ranges.{CodingRanges}
 use Rattle.pyramid.specs.Inner.Accepted.{Sized, Accepted}
-use Rattle.pyramid.proofs.Refusals.{first_nil, first_none, first_pass, accepted_coding, buffers_accepted, rebuilding_lengths, leaves_new}
+use Rattle.pyramid.proofs.Refusals.{first_nil, first_none, first_pass, unless_holds, accepted_coding, buffers_accepted, rebuilding_lengths, leaves_new}
 use Rattle.pyramid.proofs.Buffers.{all_at, length-all, read_stack, all-stack}
 use Rattle.pyramid.proofs.Ranges.{coding_ranges}
+use Rattle.pyramid.proofs.Clamps.{coded_bytes}
 
 -- the numbers that the lengths of buffers can give
 not_eleven : (a b c : Bool) → first (unless a 5 ∷ unless b 6 ∷ unless c 7 ∷ []) ≡ 11 → ⊥
@@ -31,13 +32,14 @@ not_eleven true true false e = omega arith
 not_eleven true false c e = omega arith
 not_eleven false b c e = omega arith
 
--- lawful settings and buffers of right lengths are accepted
+-- lawful settings, buffers of right lengths and pixels between black and white are accepted
 pub coding_accepts : (s : Settings) (manner : Manner) (picture : List ℕ) (levels work : List ℤ) → settings_refusal s ≡ 0
-    → Sized s (length picture) (length levels) (length work) → (coding s manner picture levels work).answer ≡ 0
-unfolding coding coding_refusal
-coding_accepts s manner picture levels work e z = first_pass _ e (first_pass _ (buffers_accepted s z) first_nil)
+    → Sized s (length picture) (length levels) (length work) → T (pixels_ok s picture) → (coding s manner picture levels work).answer ≡ 0
+unfolding coding coding_refusal lent_refusal
+coding_accepts s manner picture levels work e z t =
+    first_pass _ (first_pass _ e (first_pass _ (buffers_accepted s z) first_nil)) (first_pass _ (unless_holds (pixels_ok s picture) 20 t) first_nil)
 
-module _ (s : Settings) (manner : Manner) (picture : List ℕ) (levels work : List ℤ) (bytes : Bytes picture) (ok : (coding s manner picture levels work).answer ≡ 0) where
+module _ (s : Settings) (manner : Manner) (picture : List ℕ) (levels work : List ℤ) (ok : (coding s manner picture levels work).answer ≡ 0) where
   abbrev left : List ℤ
   left = (coding s manner picture levels work).levels
 
@@ -52,15 +54,16 @@ module _ (s : Settings) (manner : Manner) (picture : List ℕ) (levels work : Li
   coded-pixels = call.sized.picture_is
 
   pub coded-settings : settings_refusal s ≡ 0
-  unfolding coding coding_refusal
-  coded-settings = (first_none _ _ ok).0
+  unfolding coding coding_refusal lent_refusal
+  coded-settings = (first_none _ _ (first_none _ _ ok).0).0
 
   left_is : left ≡ all_levels s (index s manner g)
   unfolding coding
   left_is = leaves_new _ _ _ ok
 
   ranges : CodingRanges s manner g
-  ranges = coding_ranges s call.law picture bytes manner
+  unfolding coding
+  ranges = coding_ranges s call.law picture (coded_bytes s picture levels work ok) manner
 
   read_left : (l i j : ℕ) → l ≤ s.depth → i < columns_at s l → j < rows_at s l → read_levels s left l i j ≡ index s manner g l i j
   read_left l i j hl hi hj =

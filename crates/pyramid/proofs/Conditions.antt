@@ -6,15 +6,15 @@ use lib.Dec.{leb, eqb}
 use lib.IntN.{ℤ}
 use lib.ListN.{length}
 use Rattle.pyramid.specs.declared.Settings.{Settings}
-use Rattle.pyramid.specs.Definitions.Settings.{size_ok, depth_ok, divides, kernel_ok, bin, bins_ok}
+use Rattle.pyramid.specs.Definitions.Settings.{size_ok, depth_ok, divides, kernel_ok, black_white_ok, bin, bins_ok}
 use Rattle.pyramid.specs.Definitions.Sizes.{total}
-use Rattle.pyramid.specs.Definitions.Refusals.{first, shape_refusal, settings_refusal, buffers_refusal, values_ok, levels_refusal, coding_refusal, rebuilding_refusal}
+use Rattle.pyramid.specs.Definitions.Refusals.{first, shape_refusal, settings_refusal, buffers_refusal, values_ok, levels_refusal, lent_refusal, pixels_ok, coding_refusal, rebuilding_refusal}
 use Rattle.pyramid.specs.Definitions.Calls.{coding, rebuilding}
 use Rattle.pyramid.specs.Definitions.Answers.{bounds_answer, nodes_answer, shape_answer, level_size_answer, deepest_answer}
-use Rattle.pyramid.specs.Checks.Conditions.{DividesRule, SlotRule, size_rule, values_rule, Conditions}
+use Rattle.pyramid.specs.Checks.Conditions.{DividesRule, SlotRule, size_rule, pixels_rule, values_rule, Conditions}
 use Rattle.pyramid.proofs.Refusals.{first-last}
 use Rattle.pyramid.proofs.Rules.{Tested, refusals, first_join, given}
-use Rattle.pyramid.proofs.RuleTests.{le_decides, eq_decides, size_decides, depth_decides, divides_decides, kernel_decides, bins_decide, values_decide, picture_decides}
+use Rattle.pyramid.proofs.RuleTests.{le_decides, eq_decides, size_decides, depth_decides, divides_decides, kernel_decides, black_white_decides, bins_decide, pixels_decide, values_decide, picture_decides}
 
 -- ---- the rules with their tests, in the order in which they are looked for
 
@@ -32,6 +32,12 @@ module _ (s : Settings) where
       ∷ divides_test 14 s.depth s.columns
       ∷ divides_test 15 s.depth s.rows
       ∷ record { number = 2; test = kernel_ok s.kernel; says = (3 ≤ s.kernel) × (s.kernel ≤ 6); decides = kernel_decides s }
+      ∷ record {
+        number = 19;
+        test = black_white_ok s.black s.white;
+        says = (s.black < s.white) × (s.white ≤ 255);
+        decides = black_white_decides s;
+      }
       ∷ []
 
   abbrev pub settings_tests : List Tested
@@ -58,11 +64,17 @@ module _ (s : Settings) where
   abbrev pub levels_tests : List ℤ → List Tested
   levels_tests levels = settings_tests ++ (levels_test levels ∷ values_test levels ∷ [])
 
+  abbrev pub pixels_test : List ℕ → Tested
+  pixels_test picture = record { number = 20; test = pixels_ok s picture; says = (pixels_rule s picture).says; decides = pixels_decide s picture }
+
+  abbrev pub lent_tests : List ℕ → List ℤ → List ℤ → List Tested
+  lent_tests picture levels work = settings_tests ++ buffers_tests picture levels work
+
   abbrev pub coding_tests : List ℕ → List ℤ → List ℤ → List Tested
-  coding_tests picture levels work = settings_tests ++ buffers_tests picture levels work
+  coding_tests picture levels work = lent_tests picture levels work ++ (pixels_test picture ∷ [])
 
   abbrev pub rebuilding_tests : List ℤ → List ℕ → List ℤ → List Tested
-  rebuilding_tests levels picture work = coding_tests picture levels work ++ (values_test levels ∷ [])
+  rebuilding_tests levels picture work = lent_tests picture levels work ++ (values_test levels ∷ [])
 
   -- ---- what each call looks through
 
@@ -79,16 +91,17 @@ module _ (s : Settings) where
   levels_look levels = rw settings_look (first_join [] (refusals settings_tests) _)
 
   module _ (picture : List ℕ) (levels work : List ℤ) where
+    lent_looks : lent_refusal s (length picture) (length levels) (length work) ≡ first (refusals (lent_tests picture levels work))
+    unfolding lent_refusal buffers_refusal
+    lent_looks = rw settings_look (first_join [] (refusals settings_tests) _ ∙ first_join (refusals settings_tests) (refusals (buffers_tests picture levels work)) [])
+
     pub coding_looks : coding_refusal s picture levels work ≡ first (refusals (coding_tests picture levels work))
-    unfolding coding_refusal buffers_refusal
-    coding_looks = rw settings_look (first_join [] (refusals settings_tests) _ ∙ first_join (refusals settings_tests) (refusals (buffers_tests picture levels work)) [])
+    unfolding coding_refusal
+    coding_looks = rw lent_looks (first_join [] (refusals (lent_tests picture levels work)) _)
 
     pub rebuilding_looks : rebuilding_refusal s levels picture work ≡ first (refusals (rebuilding_tests levels picture work))
-    unfolding rebuilding_refusal buffers_refusal
-    rebuilding_looks =
-        rw settings_look
-        (first_join [] (refusals settings_tests) _
-        ∙ first_join (refusals settings_tests) (refusals (buffers_tests picture levels work)) (refusals (values_test levels ∷ [])))
+    unfolding rebuilding_refusal
+    rebuilding_looks = rw lent_looks (first_join [] (refusals (lent_tests picture levels work)) _)
 
 abbrev pub deepest_tests : ℕ → ℕ → List Tested
 deepest_tests columns rows = size_test columns rows ∷ []

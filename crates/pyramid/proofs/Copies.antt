@@ -2,7 +2,7 @@
 -- Assumes nothing.
 use mathlib.Core.Path.{◌≡◌, refl, sym, ap, ap₂, ◌∙◌}
 use mathlib.Core.List.{List, map}
-use Prim.Native.Nat.{ℕ, ◌+◌, ◌^◌, ◌≤◌, ◌<◌}
+use Prim.Native.Nat.{ℕ, ◌+◌, ◌^◌, ◌≤◌, ◌<◌, min, max}
 use lib.Dec.{T, ltb}
 use native.Mathlib.Omega.{arith}
 use lib.IntN.{ℤ, pos, negsuc, nat_abs, ◌+ℤ◌, ◌-ℤ◌, ◌*ℤ◌}
@@ -22,6 +22,7 @@ use Rattle.pyramid.specs.declared.Settings.{Settings}
 use Rattle.pyramid.specs.declared.Manner.TheVariants.{OpenLoop, ClosedLoop}
 use Rattle.pyramid.specs.Definitions.Refusals.{limit}
 use Rattle.pyramid.specs.Definitions.Rebuilding.{clamp}
+use Rattle.pyramid.specs.Inner.Lawful.{BlackWhite}
 use Rattle.pyramid.specs.Inner.Rows.{Within, Small, kept, IndicesWithin, ValuesWithin}
 use Rattle.pyramid.proofs.TapSums.{within_fits}
 use Rattle.pyramid.proofs.SmallBuffers.{small-tabulate}
@@ -29,14 +30,20 @@ use Rattle.pyramid.proofs.SmallBuffers.{small-tabulate}
 -- ---- what a value is clamped to
 
 module _ (s : Settings) where
-  clamped : (x : ℤ) → nat_abs (int_max (pos 0) (int_min x (pos 255))) ≡ clamp s x
-  unfolding clamp
-  clamped (pos n) = grind (arith, nat_tests)
-  clamped (negsuc n) = refl
+  -- to a byte, and then to black and white
+  byte_of : ℤ → ℕ
+  byte_of x = nat_abs (int_max (pos 0) (int_min x (pos 255)))
+
+  clamped : BlackWhite s.black s.white → (x : ℤ) → min (max (byte_of x) s.black) s.white ≡ clamp s x
+  unfolding clamp byte_of
+  clamped greys (pos n) = omega (arith, std.ints, std.clamps, greys.below, greys.most)
+  clamped greys (negsuc n) = omega (arith, greys.below)
 
   -- of a value that is read, what `clamp` returned, stored
-  pub clamped_stored : {x r : ℤ} → SFits w32 x → SFits w32 r → r ≡ int_max (pos 0) (int_min (held x) (pos 255)) → nat_abs (held r) ≡ clamp s x
-  clamped_stored {x} f g e = rw (held_is g, e, held_is f) (clamped x)
+  pub clamped_stored : BlackWhite s.black s.white → {x r : ℤ} → SFits w32 x → SFits w32 r → r ≡ int_max (pos 0) (int_min (held x) (pos 255))
+      → min (max (nat_abs (held r)) s.black) s.white ≡ clamp s x
+  unfolding byte_of
+  clamped_stored greys {x} f g e = rw (held_is g, e, held_is f) (clamped greys x)
 
 -- ---- a difference
 

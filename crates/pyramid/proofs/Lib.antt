@@ -11,6 +11,7 @@ pub mod Buffers
 pub mod Ranges
 pub mod PictureRanges
 pub mod ClosedLoop
+pub mod Clamps
 pub mod Accuracy
 pub mod CodedLevels
 pub mod Depth

@@ -11,9 +11,9 @@ use lib.IntN.{ℤ}
 use lib.ListN.{length}
 use Rattle.refusals.specs.Definitions.Outcomes.{outcome}
 use Rattle.pyramid.specs.declared.Settings.{Settings}
-use Rattle.pyramid.specs.Definitions.Settings.{size_ok, depth_ok, divides, kernel_ok, bins_ok}
+use Rattle.pyramid.specs.Definitions.Settings.{size_ok, depth_ok, divides, kernel_ok, black_white_ok, bins_ok}
 use Rattle.pyramid.specs.Definitions.Sizes.{total}
-use Rattle.pyramid.specs.Definitions.Refusals.{unless, first, shape_refusal, settings_refusal, buffers_refusal, values_ok, levels_refusal, coding_refusal, rebuilding_refusal}
+use Rattle.pyramid.specs.Definitions.Refusals.{unless, first, shape_refusal, settings_refusal, buffers_refusal, values_ok, levels_refusal, lent_refusal, pixels_ok, coding_refusal, rebuilding_refusal}
 use Rattle.pyramid.specs.Definitions.Calls.{leaves}
 use Rattle.pyramid.specs.Inner.Accepted.{Sized, Accepted}
 use Rattle.pyramid.specs.Inner.Lawful.{Shaped, Lawful}
@@ -156,12 +156,14 @@ module _ (s : Settings) where
       let (deep, e₁₄) = first_none _ _ e₁₃ in
       let (across, e₁₅) = first_none _ _ e₁₄ in
       let (along, e₂) = first_none _ _ e₁₅ in
+      let (kernel, e₁₉) = first_none _ _ e₂ in
       shaped s
       (unless_none (size_ok s.columns s.rows) 0 size)
       (unless_none (depth_ok s.depth) 12 deep)
       (unless_none (divides s.depth s.columns) 13 across)
       (unless_none (divides s.depth s.rows) 14 along)
-      (unless_none (kernel_ok s.kernel) 1 (first_none _ _ e₂).0)
+      (unless_none (kernel_ok s.kernel) 1 kernel)
+      (unless_none (black_white_ok s.black s.white) 18 (first_none _ _ e₁₉).0)
 
   pub accepted_settings : settings_refusal s ≡ 0 → Lawful s
   unfolding settings_refusal
@@ -202,39 +204,32 @@ module _ (s : Settings) where
       first_pass _ (unless_passes 5 (eq-eqb _ _ z.picture_is))
       (first_pass _ (unless_passes 6 (eq-eqb _ _ z.levels_is)) (first_pass _ (unless_passes 7 (le-leb _ _ z.work_least)) first_nil))
 
-  pub accepted_coding : (picture : List ℕ) (levels work : List ℤ) → coding_refusal s picture levels work ≡ 0 → Accepted s picture levels work
-  unfolding coding_refusal
-  accepted_coding picture levels work e =
+  pub accepted_lent : (picture : List ℕ) (levels work : List ℤ) → lent_refusal s (length picture) (length levels) (length work) ≡ 0 → Accepted s picture levels work
+  unfolding lent_refusal
+  accepted_lent picture levels work e =
       let (settings, e₅) = first_none _ _ e in
       record { law = accepted_settings settings; sized = accepted_buffers (length picture) (length levels) (length work) (first_none _ _ e₅).0 }
+
+  pub accepted_pixels : (picture : List ℕ) (levels work : List ℤ) → coding_refusal s picture levels work ≡ 0 → T (pixels_ok s picture)
+  unfolding coding_refusal
+  accepted_pixels picture levels work e = unless_none (pixels_ok s picture) 19 (first_none _ _ (first_none _ _ e).1).0
+
+  pub accepted_coding : (picture : List ℕ) (levels work : List ℤ) → coding_refusal s picture levels work ≡ 0 → Accepted s picture levels work
+  unfolding coding_refusal
+  accepted_coding picture levels work e = accepted_lent picture levels work (first_none _ _ e).0
 
   pub accepted_rebuilding : (levels : List ℤ) (picture : List ℕ) (work : List ℤ) → rebuilding_refusal s levels picture work ≡ 0
       → Accepted s picture levels work × T (values_ok s levels)
   unfolding rebuilding_refusal
   accepted_rebuilding levels picture work e =
-      let (settings, e₅) = first_none _ _ e in
-      let (buffers, e₁₁) = first_none _ _ e₅ in (
-        record { law = accepted_settings settings; sized = accepted_buffers (length picture) (length levels) (length work) buffers },
-        unless_none (values_ok s levels) 10 (first_none _ _ e₁₁).0,
-      )
-
-  -- rebuilding is refused as coding is, and else for its levels' values
-  module _ (levels : List ℤ) (picture : List ℕ) (work : List ℤ) where
-    pub rebuilding_refused : (coding_refusal s picture levels work ≡ 0 → ⊥) → rebuilding_refusal s levels picture work ≡ coding_refusal s picture levels work
-    unfolding coding_refusal rebuilding_refusal
-    rebuilding_refused refused =
-        first_earlier (settings_refusal s ∷ buffers_refusal s (length picture) (length levels) (length work) ∷ []) (unless (values_ok s levels) 11 ∷ []) refused
-
-    pub rebuilding_values : coding_refusal s picture levels work ≡ 0 → rebuilding_refusal s levels picture work ≡ first (unless (values_ok s levels) 11 ∷ [])
-    unfolding coding_refusal rebuilding_refusal
-    rebuilding_values e =
-        first_later (settings_refusal s ∷ buffers_refusal s (length picture) (length levels) (length work) ∷ []) (unless (values_ok s levels) 11 ∷ []) e
+      let (lent, e₁₁) = first_none _ _ e in
+      (accepted_lent picture levels work lent, unless_none (values_ok s levels) 10 (first_none _ _ e₁₁).0)
 
   -- rebuilding of levels whose values are in range, under lawful settings, is refused for its buffers' lengths alone
   pub rebuilding_lengths : (levels : List ℤ) (picture : List ℕ) (work : List ℤ) → settings_refusal s ≡ 0 → T (values_ok s levels)
       → rebuilding_refusal s levels picture work ≡ buffers_refusal s (length picture) (length levels) (length work)
-  unfolding rebuilding_refusal
-  rebuilding_lengths levels picture work e t = rw (first_skip _ _ e, unless_holds (values_ok s levels) 11 t) (first_over _ _ ∙ first-last _)
+  unfolding rebuilding_refusal lent_refusal
+  rebuilding_lengths levels picture work e t = rw (first_skip _ _ e, unless_holds (values_ok s levels) 11 t, first-last (buffers_refusal s (length picture) (length levels) (length work))) (first_over _ _ ∙ first-last _)
 
 -- ---- what is left
 

@@ -7,16 +7,17 @@ use Prim.Native.Nat.{ℕ, zero, suc, ◌-◌, ◌*◌, ◌%◌, ◌^◌, ◌≤�
 use native.Mathlib.Nat.{mul_comm}
 use native.Mathlib.Omega.{arith}
 use borrow.Author.Tests.{lt-leb}
-use lib.Dec.{T, leb, eqb, leb→le, le→leb, nleb→lt, eqb→eq, eqb_refl}
+use lib.Dec.{T, leb, ltb, eqb, leb→le, le→leb, ltb→lt, lt→ltb, nleb→lt, eqb→eq, eqb_refl}
 use lib.IntN.{ℤ, nat_abs}
+use lib.ListN.{length, get_or}
 use Rattle.mathematics.specs.Definitions.Tests.{all_below}
-use Rattle.mathematics.proofs.Tests.{both_of, then, cond_elim, below_at}
+use Rattle.mathematics.proofs.Tests.{both_of, then, cond_elim, below_at, all_inside, inside_all}
 use Rattle.pyramid.specs.declared.Settings.{Settings}
-use Rattle.pyramid.specs.Definitions.Settings.{side_ok, depth_ok, divides, kernel_ok, bin, slot_ok, size_ok, bins_ok}
+use Rattle.pyramid.specs.Definitions.Settings.{side_ok, depth_ok, divides, kernel_ok, black_white_ok, bin, slot_ok, size_ok, bins_ok}
 use Rattle.pyramid.specs.Definitions.Rebuilding.{value_of}
 use Rattle.pyramid.specs.Definitions.Buffers.{read_levels}
-use Rattle.pyramid.specs.Definitions.Refusals.{limit, values_ok}
-use Rattle.pyramid.specs.Checks.Conditions.{SideRule, DividesRule, SlotRule, size_rule, values_rule}
+use Rattle.pyramid.specs.Definitions.Refusals.{limit, values_ok, pixels_ok}
+use Rattle.pyramid.specs.Checks.Conditions.{SideRule, DividesRule, SlotRule, size_rule, pixels_rule, values_rule}
 use Rattle.pyramid.proofs.Buffers.{stack-all, all-stack}
 use Rattle.pyramid.proofs.Rules.{both_say}
 
@@ -70,6 +71,10 @@ module _ (s : Settings) where
   unfolding kernel_ok
   kernel_decides = both_say (leb 3 s.kernel) (leb s.kernel 6) (le_decides 3 s.kernel) (le_decides s.kernel 6)
 
+  pub black_white_decides : T (black_white_ok s.black s.white) ↔ ((s.black < s.white) × (s.white ≤ 255))
+  unfolding black_white_ok
+  black_white_decides = both_say (ltb s.black s.white) (leb s.white 255) (ltb→lt s.black s.white, lt→ltb s.black s.white) (le_decides s.white 255)
+
   pub bins_decide : T (bins_ok s) ↔ ((l : ℕ) → l < 7 → SlotRule s.depth l (bin s l))
   unfolding bins_ok
   bins_decide = (
@@ -86,3 +91,13 @@ module _ (s : Settings) where
 
   pub picture_decides : (picture : ℕ) → T (eqb picture (s.rows * s.columns)) ↔ (picture ≡ s.columns * s.rows)
   picture_decides picture = rw (mul_comm s.rows s.columns) (eq_decides picture (s.columns * s.rows))
+
+  pub pixel_decides : (pixel : ℕ) → T (leb s.black pixel && leb pixel s.white) ↔ ((s.black ≤ pixel) × (pixel ≤ s.white))
+  pixel_decides pixel = both_say (leb s.black pixel) (leb pixel s.white) (le_decides s.black pixel) (le_decides pixel s.white)
+
+  pub pixels_decide : (picture : List ℕ) → T (pixels_ok s picture) ↔ (pixels_rule s picture).says
+  unfolding pixels_ok
+  pixels_decide picture = (
+    λ t p h. (pixel_decides (get_or picture p 0)).0 (all_inside (λ p. leb s.black p && leb p s.white) 0 picture t p h),
+    λ r. inside_all (λ p. leb s.black p && leb p s.white) 0 picture (λ p h. (pixel_decides (get_or picture p 0)).1 (r p h)),
+  )

@@ -3,11 +3,11 @@ use mathlib.Core.Path.{◌≡◌, refl, sym, ◌∙◌}
 use mathlib.Core.Bool.{Bool, true, false, cond}
 use Prim.Native.Nat.{ℕ, ◌*◌, ◌≤◌}
 use native.Mathlib.Omega.{arith}
-use borrow.Author.Tests.{le-leb, eq-eqb, leb-true}
+use borrow.Author.Tests.{le-leb, lt-ltb, eq-eqb, leb-true}
 use lib.Dec.{leb}
 use Rattle.pyramid.specs.declared.Settings.{Settings}
 use Rattle.pyramid.specs.declared.Dimensions.{Dimensions}
-use Rattle.pyramid.specs.Definitions.Settings.{side_ok, depth_ok, divides, kernel_ok, size_ok}
+use Rattle.pyramid.specs.Definitions.Settings.{side_ok, depth_ok, divides, kernel_ok, black_white_ok, size_ok}
 use Rattle.pyramid.specs.Definitions.Sizes.{columns_at, rows_at, nodes_at, total}
 use Rattle.pyramid.specs.Inner.Lawful.{Shaped}
 use Rattle.pyramid.specs.Definitions.Calls.{leaves}
@@ -17,7 +17,7 @@ use Rattle.pyramid.proofs.Refusals.{leaves_new}
 use Rattle.pyramid.proofs.Sizes.{nodes_small}
 
 pub shape_accepted : (s : Settings) → Shaped s → shape_refusal s ≡ 0
-unfolding shape_refusal size_ok side_ok depth_ok divides kernel_ok unless first
+unfolding shape_refusal size_ok side_ok depth_ok divides kernel_ok black_white_ok unless first
 shape_accepted s shape =
     rw (
       le-leb _ _ shape.across.least,
@@ -29,6 +29,8 @@ shape_accepted s shape =
       eq-eqb _ _ shape.along.whole,
       le-leb _ _ shape.kernel.least,
       le-leb _ _ shape.kernel.most,
+      lt-ltb _ _ shape.greys.below,
+      le-leb _ _ shape.greys.most,
     )
 
 module _ (s : Settings) (level : ℕ) (shape : Shaped s) (h : level ≤ s.depth) where

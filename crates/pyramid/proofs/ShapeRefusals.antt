@@ -7,7 +7,7 @@ use Prim.Native.Nat.{ℕ, ◌≤◌, ◌<◌}
 use borrow.Author.Tests.{le-leb, lt-leb}
 use lib.Dec.{T}
 use Rattle.pyramid.specs.declared.Settings.{Settings}
-use Rattle.pyramid.specs.Definitions.Settings.{size_ok, depth_ok, divides, kernel_ok}
+use Rattle.pyramid.specs.Definitions.Settings.{size_ok, depth_ok, divides, kernel_ok, black_white_ok}
 use Rattle.pyramid.specs.Definitions.Depth.{deepest_depth}
 use Rattle.pyramid.specs.Definitions.Refusals.{unless, first, shape_refusal}
 use Rattle.pyramid.proofs.Depth.{deepest_test}
@@ -63,7 +63,7 @@ module _ (s : Settings) (size : size_ok s.columns s.rows ≡ true) where
         let r : along ≡ false = rw (depth_holds, c) at (above s.columns s.rows s.depth k) in
         answers_fails {number = 14} _ r ∙ answers_passes 14 _ c ∙ answers_passes 13 _ depth_holds ∙ answers_passes 1 _ size
 
-  pub depth_passes : s.depth ≤ deepest_depth s.columns s.rows → {n : ℕ} → n ≡ first (unless (kernel_ok s.kernel) 2 ∷ []) → n ≡ shape_refusal s
+  pub depth_passes : s.depth ≤ deepest_depth s.columns s.rows → {n : ℕ} → n ≡ first (unless (kernel_ok s.kernel) 2 ∷ unless (black_white_ok s.black s.white) 19 ∷ []) → n ≡ shape_refusal s
   unfolding shape_refusal
   depth_passes h e =
       let (deep, sides) = halves (depth_ok s.depth) (across && along) (up_to s.columns s.rows s.depth h) in

@@ -112,7 +112,7 @@ module _ (s t : Settings) (wide : s.columns ≤ t.columns) (tall : s.rows ≤ t.
 
 -- the most columns, rows and levels
 largest : Settings
-largest = record { columns = 129; rows = 129; depth = 6; kernel = 3; bins = [] }
+largest = record { columns = 129; rows = 129; depth = 6; kernel = 3; black = 0; white = 255; bins = [] }
 
 pub nodes_to_most : (s : Settings) → Shaped s → (n : ℕ) → n ≤ 6 → nodes_to s n ≤ 22359
 unfolding largest

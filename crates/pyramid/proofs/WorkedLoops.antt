@@ -8,7 +8,7 @@ use Rattle.quantizer.specs.Definitions.Rounding.{round_div}
 use Rattle.quantizer.specs.Definitions.Bins.{bin_index}
 use Rattle.quantizer.proofs.Rounding.{round_at}
 use Rattle.quantizer.proofs.Bins.{bin_at}
-use Rattle.pyramid.specs.Definitions.Settings.{side_ok, depth_ok, divides, kernel_ok, slot_ok, size_ok, bins_ok}
+use Rattle.pyramid.specs.Definitions.Settings.{side_ok, depth_ok, divides, kernel_ok, black_white_ok, slot_ok, size_ok, bins_ok}
 use Rattle.pyramid.specs.Definitions.Sizes.{last, nodes_to, total}
 use Rattle.pyramid.specs.Definitions.Weights.{weights, weight}
 use Rattle.pyramid.specs.Definitions.Edge.{reflect}
@@ -18,12 +18,12 @@ use Rattle.pyramid.specs.Definitions.Rebuilding.{value_of}
 use Rattle.pyramid.specs.Definitions.Manners.{quantized, closed_rebuilt, reference, difference, index}
 use Rattle.pyramid.specs.Definitions.Bound.{tolerance, bound_at}
 use Rattle.pyramid.specs.Definitions.Buffers.{raster, pixels, stack}
-use Rattle.pyramid.specs.Definitions.Refusals.{unless, first, shape_refusal, settings_refusal, buffers_refusal, coding_refusal}
+use Rattle.pyramid.specs.Definitions.Refusals.{unless, first, shape_refusal, settings_refusal, buffers_refusal, lent_refusal, pixels_ok, coding_refusal}
 use Rattle.pyramid.specs.Definitions.Calls.{leaves, coding}
 use Rattle.pyramid.specs.Checks.WorkedLoops.{WorkedLoops}
 
 pub worked_loops : WorkedLoops
-unfolding sum all_below all tabulate side_ok depth_ok divides kernel_ok slot_ok size_ok bins_ok last nodes_to total weights weight reflect window reduce even_weight expand index_of average value_of quantized closed_rebuilt reference difference index tolerance bound_at raster pixels stack unless first shape_refusal settings_refusal buffers_refusal coding_refusal leaves coding
+unfolding sum all_below all tabulate side_ok depth_ok divides kernel_ok black_white_ok slot_ok size_ok bins_ok last nodes_to total weights weight reflect window reduce even_weight expand index_of average value_of quantized closed_rebuilt reference difference index tolerance bound_at raster pixels stack unless first shape_refusal settings_refusal buffers_refusal lent_refusal pixels_ok coding_refusal leaves coding
 worked_loops = record {
   -- the average, EXPAND of 24, the index of the average, and those of what level 0 codes
   of_a = simp (

@@ -7,3 +7,4 @@ pub mod Refused
 pub mod SizeAtFault
 pub mod WorkedPasses
 pub mod WorkedLoops
+pub mod ShownGreys

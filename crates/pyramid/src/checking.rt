@@ -1,8 +1,8 @@
-// Whether settings are lawful (document 01, "Settings"), and which rule is broken first (document 02, P1).
+// Whether settings are lawful (document 01, "Settings"), and which rule is broken first (document 02, P1 and P5).
 ghost use Rattle.std.specs.Prelude.{◌≡◌, true, ◌≤◌, ◌<◌};
 ghost use Rattle.refusals.specs.Definitions.Numbers.{number};
 ghost use Rattle.refusals.specs.Definitions.Outcomes.{outcome};
-ghost use Rattle.pyramid.specs.Definitions.Settings.{side_ok, size_ok, kernel_ok, slot_ok, bins_ok};
+ghost use Rattle.pyramid.specs.Definitions.Settings.{side_ok, size_ok, kernel_ok, black_white_ok, slot_ok, bins_ok};
 ghost use Rattle.pyramid.specs.Definitions.Depth.{deepest_depth};
 ghost use Rattle.pyramid.specs.Definitions.Refusals.{shape_refusal, settings_refusal};
 
@@ -38,6 +38,13 @@ fn kernel_ok(kernel: u16) -> bool
     ensures { result ≡ kernel_ok kernel }
 {
     (3..=6).contains(&kernel)
+}
+
+#[tactic(auto, unfolding(crate::specs::Definitions::Settings::black_white_ok))]
+fn black_white_ok(black: u16, white: u16) -> bool
+    ensures { result ≡ black_white_ok black white }
+{
+    black < white && white <= 255
 }
 
 #[tactic(auto, unfolding(crate::specs::Definitions::Settings::slot_ok))]
@@ -88,11 +95,13 @@ pub fn check_shape(s: Settings) -> Result<(), Refusal>
     if deepest(s.columns, s.rows) < s.depth {
         return Err(depth_refusal(s));
     }
-    if kernel_ok(s.kernel) {
-        Ok(())
-    } else {
-        Err(Refusal::Kernel)
+    if !kernel_ok(s.kernel) {
+        return Err(Refusal::Kernel);
     }
+    if !black_white_ok(s.black, s.white) {
+        return Err(Refusal::BlackWhite);
+    }
+    Ok(())
 }
 
 // The first rule that the settings break.

@@ -6,7 +6,7 @@ ghost use Rattle.pyramid.specs.Definitions.Rebuilding.{clamp};
 ghost use Rattle.pyramid.specs.Inner.Rows.{Small, kept, IndicesWithin, ValuesWithin};
 ghost use Rattle.pyramid.specs.Definitions.Refusals.{limit};
 
-use crate::{Manner, Settings};
+use crate::{LawfulSettings, Manner};
 
 // The pixels as numbers.
 pub fn load(picture: &[u8], values: &mut [i32])
@@ -18,13 +18,16 @@ pub fn load(picture: &[u8], values: &mut [i32])
     }
 }
 
-// The final picture: every value clamped.
-pub fn clamp_all(s: Settings, src: &[i32], picture: &mut [u8])
+// The final picture: every value clamped to black and white.
+// Kept: clamped to bytes first, so that the compiler puts sixteen values into bytes at a time, and clamps these.
+pub fn clamp_all(lawful: LawfulSettings, src: &[i32], picture: &mut [u8])
     requires { length src.now ≡ length picture.old }
-    ensures { picture.new ≡ map (clamp s) src.now }
+    ensures { picture.new ≡ map (clamp lawful) src.now }
 {
+    let black = lawful.settings.black as u8;
+    let white = lawful.settings.white as u8;
     for (i, &x) in src.iter().enumerate() {
-        picture[i] = x.clamp(0, 255) as u8;
+        picture[i] = (x.clamp(0, 255) as u8).max(black).min(white);
     }
 }
 

@@ -1,7 +1,7 @@
 // The picture pyramid of document 01: settings, coding, rebuilding, the bound and the deepest depth.
 #![tactic(auto)]
 
-ghost use Rattle.std.specs.Prelude.{◌≡◌, [], ◌∷◌, T, length};
+ghost use Rattle.std.specs.Prelude.{◌≡◌, T, length};
 ghost use Rattle.refusals.specs.Definitions.Outcomes.{outcome};
 ghost use Rattle.pyramid.specs.declared.Manner.TheVariants.{OpenLoop, ClosedLoop};
 ghost use Rattle.pyramid.specs.Definitions.Answers.{nodes_answer, shape_answer, size_of, level_size_answer, bounds_answer, deepest_answer};
@@ -9,7 +9,7 @@ ghost use Rattle.pyramid.specs.Definitions.Pyramid.{average};
 ghost use Rattle.pyramid.specs.Definitions.Rebuilding.{rebuilt, clamp};
 ghost use Rattle.pyramid.specs.Definitions.Manners.{reference, index};
 ghost use Rattle.pyramid.specs.Definitions.Buffers.{raster, pixels, all_levels, read_levels};
-ghost use Rattle.pyramid.specs.Definitions.Refusals.{first, settings_refusal, buffers_refusal, values_ok, levels_refusal};
+ghost use Rattle.pyramid.specs.Definitions.Refusals.{lent_refusal, values_ok, levels_refusal};
 ghost use Rattle.pyramid.specs.Definitions.Calls.{in_work, coding, rebuilding};
 ghost use Rattle.pyramid.specs.Inner.Accepted.{Sized};
 
@@ -28,7 +28,7 @@ mod rasters;
 mod shapes;
 mod taps;
 
-// The first rule that settings break. Refused: 1, 13, 14, 15, 2, 3.
+// The first rule that settings break. Refused: 1, 13, 14, 15, 2, 19, 3.
 pub use checking::check_settings;
 
 // Settings that are known to be lawful: the shape, and all of them.
@@ -38,13 +38,15 @@ pub use shapes::{LawfulSettings, Shape};
 pub use limits::index_pairs_ok;
 
 // Kept: seven slots, of which the depth says how many count: the settings as the documents have them, and C hands them over (C interface).
-// Columns, rows, depth, kernel and the bin of each level in its slot (document 01, "Settings").
+// Columns, rows, depth, kernel, the camera's black and white, and the bin of each level in its slot (document 01, "Settings"; document 02, P5).
 #[derive(Clone, Copy)]
 pub struct Settings {
     pub columns: u16,
     pub rows: u16,
     pub depth: u16,
     pub kernel: u16,
+    pub black: u16,
+    pub white: u16,
     pub bins: [u16; 7],
 }
 
@@ -63,7 +65,7 @@ pub struct Dimensions {
     pub rows: u16,
 }
 
-// T, the number of nodes of all levels. Refused: 1, 13, 14, 15, 2, 3.
+// T, the number of nodes of all levels. Refused: 1, 13, 14, 15, 2, 19, 3.
 pub fn total_nodes(s: Settings) -> Result<u16, Refusal>
     ensures { result ≡ outcome (nodes_answer s).refusal (nodes_answer s).nodes }
 {
@@ -71,7 +73,7 @@ pub fn total_nodes(s: Settings) -> Result<u16, Refusal>
     Ok(lawful.shape().nodes())
 }
 
-// T of a shape, whose bins are not looked at. Refused: 1, 13, 14, 15, 2.
+// T of a shape, whose bins are not looked at. Refused: 1, 13, 14, 15, 2, 19.
 pub fn shape_nodes(s: Settings) -> Result<u16, Refusal>
     ensures { result ≡ outcome (shape_answer s).refusal (shape_answer s).nodes }
 {
@@ -79,7 +81,7 @@ pub fn shape_nodes(s: Settings) -> Result<u16, Refusal>
     Ok(shape.nodes())
 }
 
-// The columns and rows of a level of a shape; 0 by 0 for a level above the depth. Refused: 1, 13, 14, 15, 2.
+// The columns and rows of a level of a shape; 0 by 0 for a level above the depth. Refused: 1, 13, 14, 15, 2, 19.
 pub fn level_size(s: Settings, level: u16) -> Result<Dimensions, Refusal>
     ensures { result ≡ outcome (level_size_answer s level).refusal (size_of (level_size_answer s level)) }
 {
@@ -88,14 +90,14 @@ pub fn level_size(s: Settings, level: u16) -> Result<Dimensions, Refusal>
 }
 
 // How far a rebuilt value of each level can lie from its average, each in its slot; 0 in the slots above the depth. It holds whichever coder
-// made the levels. Refused: 1, 13, 14, 15, 2, 3.
+// made the levels. Refused: 1, 13, 14, 15, 2, 19, 3.
 pub fn level_bounds(s: Settings) -> Result<[u16; 7], Refusal>
     ensures { result ≡ outcome (bounds_answer s OpenLoop).refusal (bounds_answer s OpenLoop).levels }
 {
     bounds_of(s, Manner::OpenLoop)
 }
 
-// The same of levels that the closed-loop coder made. Refused: 1, 13, 14, 15, 2, 3.
+// The same of levels that the closed-loop coder made. Refused: 1, 13, 14, 15, 2, 19, 3.
 pub fn closed_loop_bounds(s: Settings) -> Result<[u16; 7], Refusal>
     ensures { result ≡ outcome (bounds_answer s ClosedLoop).refusal (bounds_answer s ClosedLoop).levels }
 {
@@ -122,7 +124,7 @@ pub fn deepest_depth(columns: u16, rows: u16) -> Result<u16, Refusal>
     Ok(checking::deepest(columns, rows))
 }
 
-// Whether rebuilding can take a level buffer, whatever the others are. Refused: 1, 13, 14, 15, 2, 3, 6, 11.
+// Whether rebuilding can take a level buffer, whatever the others are. Refused: 1, 13, 14, 15, 2, 19, 3, 6, 11.
 pub fn check_levels(s: Settings, levels: &[i16]) -> Result<(), Refusal>
     ensures { result ≡ outcome (levels_refusal s levels.now) tt }
 {
@@ -137,7 +139,7 @@ fn accepted(
     levels: usize,
     work: usize,
 ) -> Result<LawfulSettings, Refusal>
-    ensures { result ≡ outcome (first (settings_refusal s ∷ buffers_refusal s picture levels work ∷ [])) s }
+    ensures { result ≡ outcome (lent_refusal s picture levels work) s }
 {
     let lawful = LawfulSettings::new(s)?;
     if picture != s.rows as usize * s.columns as usize {
@@ -155,7 +157,7 @@ fn accepted(
 
 // Kept: the three buffers one by one, as in the exported functions: a coding writes two of them, a rebuilding two others.
 // Codes a picture, open-loop: its indices in the level buffer, its averages in the work buffer.
-// Refused: 1, 13, 14, 15, 2, 3, 5, 6, 7.
+// Refused: 1, 13, 14, 15, 2, 19, 3, 5, 6, 7, 20.
 pub fn coding(
     s: Settings,
     picture: &[u8],
@@ -173,7 +175,7 @@ pub fn coding(
 
 // Codes a picture, closed-loop: its indices in the level buffer and, in the work buffer, what rebuilding from these leaves there: the unclamped
 // values of all levels.
-// Refused: 1, 13, 14, 15, 2, 3, 5, 6, 7.
+// Refused: 1, 13, 14, 15, 2, 19, 3, 5, 6, 7, 20.
 pub fn closed_loop_coding(
     s: Settings,
     picture: &[u8],
@@ -204,6 +206,9 @@ fn code_picture(
         (coding s manner picture.now levels.old work.old).work }
 {
     let lawful = accepted(s, picture.len(), levels.len(), work.len())?;
+    if !limits::pixels_ok(lawful, picture) {
+        return Err(Refusal::Pixel);
+    }
     code(lawful, manner, picture, levels, work);
     Ok(())
 }
@@ -229,7 +234,7 @@ fn code(
 }
 
 // Rebuilds a picture from its level buffer: the unclamped values in the work buffer, the clamped ones in the picture.
-// Refused: 1, 13, 14, 15, 2, 3, 5, 6, 7, 11.
+// Refused: 1, 13, 14, 15, 2, 19, 3, 5, 6, 7, 11.
 pub fn rebuilding(
     s: Settings,
     levels: &[i16],
@@ -260,5 +265,5 @@ fn rebuild(lawful: LawfulSettings, levels: &[i16], picture: &mut [u8], work: &mu
     let level = lawful.level(0);
     layering::value_levels(lawful, levels, work);
     let from = level.start();
-    copying::clamp_all(level.settings, &work[from..from + level.nodes()], picture);
+    copying::clamp_all(lawful, &work[from..from + level.nodes()], picture);
 }

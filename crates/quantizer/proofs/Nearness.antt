@@ -1,8 +1,8 @@
 -- The test whether the values of a row are near 0: one bit pattern of all of them. Assumes nothing.
 use mathlib.Core.Path.{◌≡◌, refl, sym, ◌∙◌}
 use mathlib.Core.Bool.{true, ◌&&◌, and_assoc, and-true}
-use mathlib.Core.List.{List, [], ◌∷◌}
-use Prim.Native.Nat.{ℕ, zero, suc, ◌+◌, ◌%◌, ◌≤◌, ◌<◌}
+use mathlib.Core.List.{List}
+use Prim.Native.Nat.{ℕ, ◌+◌, ◌%◌, ◌≤◌, ◌<◌}
 use native.Mathlib.Nat.{mod-lt}
 use native.Mathlib.Omega.{arith}
 use lib.Dec.{T, ltb, ltb→lt, lt→ltb}
@@ -15,7 +15,7 @@ use Rattle.std.proofs.Common.{bit_or}
 use Rattle.std.proofs.lemmas.Int.{ints, of_z-to_z}
 use Rattle.std.proofs.lemmas.Nat.{le_or_l, le_or_r, or_lt}
 use Rattle.mathematics.specs.Definitions.Tests.{all}
-use Rattle.mathematics.proofs.Tests.{both, both_of, same_test, all-next, all_past}
+use Rattle.mathematics.proofs.Tests.{both, both_of, same_test, all-next, all_past, all_inside}
 use Rattle.quantizer.specs.Inner.Reciprocals.{near}
 
 pub near_range : (x : ℤ) → near x ≡ true → (neg_ℤ (pos 8192) ≤ℤ x) × (x <ℤ pos 8192)
@@ -73,11 +73,4 @@ joined_end {xs} {i} {bits} r h = sym (rw (all_past near xs i h, and-true (ltb bi
 -- ---- an element of a row whose values are all near
 
 pub near_at : (xs : List ℤ) (i : ℕ) → all near xs ≡ true → i < length xs → near (get_or xs i (pos 0)) ≡ true
-unfolding all
-near_at [] i e h = absurd (omega (arith, h))
-near_at (x ∷ xs) zero e h =
-    let t : T (near x && all near xs) = rw e tt in
-    same_test (near x) true (λ _. tt) (λ _. (both (near x) (all near xs) t).0)
-near_at (x ∷ xs) (suc i) e h =
-    let t : T (near x && all near xs) = rw e tt in
-    near_at xs i (same_test (all near xs) true (λ _. tt) (λ _. (both (near x) (all near xs) t).1)) (omega (arith, h))
+near_at xs i e h = same_test (near (get_or xs i (pos 0))) true (λ _. tt) (λ _. all_inside near (pos 0) xs (rw e tt) i h)

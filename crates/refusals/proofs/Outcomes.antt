@@ -6,7 +6,7 @@ use lib.Dec.{T, eqb→eq}
 use Rattle.mathematics.specs.Definitions.Tests.{all_below}
 use Rattle.mathematics.proofs.Tests.{below_at}
 use Rattle.refusals.specs.declared.Refusal.{Refusal}
-use Rattle.refusals.specs.declared.Refusal.TheVariants.{Size, Kernel, Bin, Reading, PictureLength, LevelsLength, WorkLength, FileLength, FileEnds, Count, Index, BytesAfter, Depth, Columns, Rows, Header, Greatest, PixelCount}
+use Rattle.refusals.specs.declared.Refusal.TheVariants.{Size, Kernel, Bin, Reading, PictureLength, LevelsLength, WorkLength, FileLength, FileEnds, Count, Index, BytesAfter, Depth, Columns, Rows, Header, Greatest, PixelCount, BlackWhite, Pixel}
 use Rattle.refusals.specs.Definitions.Numbers.{number}
 use Rattle.refusals.specs.Definitions.Outcomes.{refusals, outcome, answer_number}
 use Rattle.refusals.specs.Checks.Numbers.{OneNumberEach}
@@ -40,6 +40,8 @@ module _ {A : Type 0} (value : A) where
   refused_by Header = refl
   refused_by Greatest = refl
   refused_by PixelCount = refl
+  refused_by BlackWhite = refl
+  refused_by Pixel = refl
 
   -- an error with the number of the first broken rule
   pub refuses : {n : ℕ} (r : Refusal) → number r ≡ n → Err r ≡ outcome n value
@@ -83,16 +85,16 @@ passed_on value other n returned e is said same =
 -- ---- numbers and refusals stand for each other
 
 abbrev at-place : ℕ → Bool
-at-place n = eqb (number (get_or refusals n PixelCount)) (suc n)
+at-place n = eqb (number (get_or refusals n Pixel)) (suc n)
 
-all-in-order : T (all_below 18 at-place)
+all-in-order : T (all_below 20 at-place)
 unfolding all_below
 all-in-order = tt
 
-answered-by : {A : Type 0} (n : ℕ) (value : A) → n ≤ 18 → answer_number (outcome n value) ≡ n
+answered-by : {A : Type 0} (n : ℕ) (value : A) → n ≤ 20 → answer_number (outcome n value) ≡ n
 unfolding outcome answer_number
 answered-by zero value h = refl
-answered-by (suc n) value h = eqb→eq _ _ (below_at 18 at-place all-in-order n (omega arith))
+answered-by (suc n) value h = eqb→eq _ _ (below_at 20 at-place all-in-order n (omega arith))
 
 apart : (r q : Refusal) → number r ≡ number q → r ≡ q
 apart r q e = err_same (refused_by tt r) (refused_by tt q) (ap (λ (n : ℕ). outcome n tt) e)
@@ -110,7 +112,7 @@ one_number_each = record {
   apart = apart;
 }
   where
-    range : (r : Refusal) → (1 ≤ number r) × (number r ≤ 18)
+    range : (r : Refusal) → (1 ≤ number r) × (number r ≤ 20)
     range Size = (omega arith, omega arith)
     range Kernel = (omega arith, omega arith)
     range Bin = (omega arith, omega arith)
@@ -129,3 +131,5 @@ one_number_each = record {
     range Header = (omega arith, omega arith)
     range Greatest = (omega arith, omega arith)
     range PixelCount = (omega arith, omega arith)
+    range BlackWhite = (omega arith, omega arith)
+    range Pixel = (omega arith, omega arith)

@@ -26,6 +26,8 @@ pub enum Refusal {
     Header = 16,
     Greatest = 17,
     PixelCount = 18,
+    BlackWhite = 19,
+    Pixel = 20,
 }
 
 impl From<Refusal> for u16 {

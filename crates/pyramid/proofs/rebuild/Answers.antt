@@ -41,7 +41,7 @@ pub returns-clause-picture_after : goal.returns-clause-picture_after
 returns-clause-picture_after c =
     let n = (goal.at.returns-clause-picture_after c).After-nodes in
     let values : ℕ → Level = rebuilt c.args.lawful (read_levels c.args.lawful c.args.levels.now) in
-    (rw (end n, place n, c.level-level.ensures.0) at c.clamp_all.ensures)
+    (rw (end n, place n) at c.clamp_all.ensures)
     ∙ picture_clamped c.args.lawful (law n) values c.args.work.now c.value_levels.new.work (c.value_levels.ensures ∙ front_all c.args.lawful values c.args.work.now)
     (omega (arith, c.value_levels.auto.work, c.requires.sized.work_least))
 

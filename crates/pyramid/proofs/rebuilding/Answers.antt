@@ -10,17 +10,17 @@ use lib.IntN.{ℤ}
 use lib.ListN.{length}
 use Rattle.std.specs.Prelude.{Ok}
 use Rattle.pyramid.specs.declared.Settings.{Settings}
-use Rattle.pyramid.specs.Definitions.Refusals.{unless, first, settings_refusal, buffers_refusal, values_ok, coding_refusal, rebuilding_refusal}
+use Rattle.pyramid.specs.Definitions.Refusals.{unless, first, lent_refusal, values_ok, rebuilding_refusal}
 use Rattle.pyramid.specs.Definitions.Calls.{leaves, rebuilding}
 use Rattle.pyramid.specs.Inner.Accepted.{Accepted}
-use Rattle.pyramid.proofs.Refusals.{accepted_coding, rebuilding_refused, rebuilding_values, leaves_kept}
+use Rattle.pyramid.proofs.Refusals.{first_skip, first_stop, accepted_lent, leaves_kept}
 use Rattle.pyramid.proofs.rebuilding.Goals as goal
 
 pub returns-in_err-lawful : goal.returns-in_err-lawful
-unfolding rebuilding coding_refusal
+unfolding rebuilding rebuilding_refusal
 returns-in_err-lawful c =
     let refused = some _ _ (sym c.in_err-lawful.ensures) in
-    let same = rebuilding_refused c.args.s c.args.levels.now c.args.picture.now c.args.work.now refused in
+    let same = first_stop _ _ refused in
     record {
       value = passed_on _ _ _ c.from_residual.result _ c.from_residual.ensures.1 c.in_err-lawful.ensures (λ _. same);
       picture_after = sym (leaves_kept _ _ _ (λ e. refused (sym same ∙ e)));
@@ -28,21 +28,14 @@ returns-in_err-lawful c =
     }
 
 -- settings that are accepted with these buffers
-module _ (s held : Settings) (picture : List ℕ) (levels work : List ℤ)
-    (e : Ok held ≡ outcome (first (settings_refusal s ∷ buffers_refusal s (length picture) (length levels) (length work) ∷ [])) s) where
-  same : held ≡ s
-  same = value-is _ _ (sym e)
-
-  passed : coding_refusal held picture levels work ≡ 0
-  unfolding coding_refusal
-  passed = rw same (none _ _ (sym e))
-
+module _ (s held : Settings) (picture : List ℕ) (levels work : List ℤ) (e : Ok held ≡ outcome (lent_refusal s (length picture) (length levels) (length work)) s) where
   taken : Accepted held picture levels work
-  taken = accepted_coding _ _ _ _ passed
+  taken = rw (value-is _ _ (sym e)) (accepted_lent _ _ _ _ (none _ _ (sym e)))
 
   -- what is left to look at
   values_left : (holds : Bool) → holds ≡ values_ok held levels → rebuilding_refusal s levels picture work ≡ first (unless holds 11 ∷ [])
-  values_left holds f = rw (← same, f) (rebuilding_values _ _ _ _ passed)
+  unfolding rebuilding_refusal
+  values_left holds f = rw (f, value-is _ _ (sym e)) (first_skip _ _ (none _ _ (sym e)))
 
 pub values_ok-requires : goal.values_ok-requires
 values_ok-requires c = (taken _ _ _ _ _ c.in_ok-lawful.ensures).sized.levels_is
@@ -57,6 +50,6 @@ rebuild-requires c = record { sized = (taken _ _ _ _ _ c.in_ok-lawful.ensures).s
 pub returns : goal.returns
 unfolding rebuilding unless first leaves outcome
 returns c =
-    let s = same _ _ _ _ _ c.in_ok-lawful.ensures in
+    let s = value-is _ _ (sym c.in_ok-lawful.ensures) in
     rw (values_left _ _ _ _ _ c.in_ok-lawful.ensures _ c.if-not-values_ok.ensures)
     (record { value = refl; picture_after = rw s at c.rebuild.ensures.picture_after; work_after = rw s at c.rebuild.ensures.work_after })

@@ -1,6 +1,6 @@
--- Each number is given on its condition and on no other (document 01, "Who can cause which refusal"; document 02, P1). The rules are
+-- Each number is given on its condition and on no other (document 01, "Who can cause which refusal"; document 02, P1 and P5). The rules are
 -- propositions in the documents' words, beside the tests that Definitions have. Assumes nothing.
-use Rattle.std.specs.Prelude.{◌≡◌, ◌↔◌, List, [], ◌∷◌, ◌++◌, ℕ, ◌-◌, ◌*◌, ◌%◌, ◌^◌, ◌≤◌, ◌<◌, ℤ, pos, nat_abs, ◌*ℤ◌, length}
+use Rattle.std.specs.Prelude.{◌≡◌, ◌↔◌, List, [], ◌∷◌, ◌++◌, ℕ, ◌-◌, ◌*◌, ◌%◌, ◌^◌, ◌≤◌, ◌<◌, ℤ, pos, nat_abs, ◌*ℤ◌, length, get_or}
 use Rattle.pyramid.specs.declared.Settings.{Settings}
 use Rattle.pyramid.specs.declared.Manner.{Manner}
 use Rattle.pyramid.specs.Definitions.Settings.{bin}
@@ -53,6 +53,7 @@ module _ (s : Settings) where
       ∷ record { number = 14; says = DividesRule s.depth s.columns }
       ∷ record { number = 15; says = DividesRule s.depth s.rows }
       ∷ record { number = 2; says = (3 ≤ s.kernel) × (s.kernel ≤ 6) }
+      ∷ record { number = 19; says = (s.black < s.white) × (s.white ≤ 255) }
       ∷ []
 
   abbrev pub settings_rules : List Rule
@@ -68,8 +69,13 @@ module _ (s : Settings) where
     says = (l i j : ℕ) → l ≤ s.depth → i < columns_at s l → j < rows_at s l → nat_abs (read_levels s levels l i j *ℤ pos (bin s l)) ≤ 4096;
   }
 
-  abbrev pub coding_rules : List ℕ → List ℤ → List ℤ → List Rule
-  coding_rules picture levels work =
+  -- every pixel lies between black and white, both ends allowed
+  abbrev pub pixels_rule : List ℕ → Rule
+  pixels_rule picture = record { number = 20; says = (p : ℕ) → p < length picture → (s.black ≤ get_or picture p 0) × (get_or picture p 0 ≤ s.white) }
+
+  -- what coding and rebuilding look for first
+  abbrev pub lent_rules : List ℕ → List ℤ → List ℤ → List Rule
+  lent_rules picture levels work =
       settings_rules
       ++ (record { number = 5; says = length picture ≡ s.columns * s.rows }
       ∷ levels_rule levels
@@ -80,9 +86,9 @@ module _ (s : Settings) where
 
 pub record Conditions (s : Settings) : Type 0 where
   pub of_coding : (manner : Manner) (picture : List ℕ) (levels work : List ℤ)
-      → Given (coding_rules s picture levels work) (coding s manner picture levels work).answer
+      → Given (lent_rules s picture levels work ++ (pixels_rule s picture ∷ [])) (coding s manner picture levels work).answer
   pub of_rebuilding : (levels : List ℤ) (picture : List ℕ) (work : List ℤ)
-      → Given (coding_rules s picture levels work ++ (values_rule s levels ∷ [])) (rebuilding s levels picture work).answer
+      → Given (lent_rules s picture levels work ++ (values_rule s levels ∷ [])) (rebuilding s levels picture work).answer
   pub of_settings : Given (settings_rules s) (settings_refusal s)
   pub of_levels : (levels : List ℤ) → Given (settings_rules s ++ (levels_rule s levels ∷ values_rule s levels ∷ [])) (levels_refusal s levels)
   pub of_bounds : (manner : Manner) → Given (settings_rules s) (bounds_answer s manner).refusal

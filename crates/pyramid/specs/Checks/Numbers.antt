@@ -1,4 +1,4 @@
--- Which numbers each call can answer (document 01, "Who can cause which refusal"; document 02, P1), a row for each call. Assumes nothing.
+-- Which numbers each call can answer (document 01, "Who can cause which refusal"; document 02, P1 and P5), a row for each call. Assumes nothing.
 use Rattle.std.specs.Prelude.{Bool, true, false, cond, List, [], ◌∷◌, ◌++◌, ℕ, T, eqb, ℤ}
 use Rattle.pyramid.specs.declared.Settings.{Settings}
 use Rattle.pyramid.specs.declared.Manner.{Manner}
@@ -17,17 +17,20 @@ Answers numbers n = T (one_of (0 ∷ numbers) n)
 
 -- a shape; settings, as the bound, T and a file's size look for them
 abbrev pub shape_numbers : List ℕ
-shape_numbers = 1 ∷ 13 ∷ 14 ∷ 15 ∷ 2 ∷ []
+shape_numbers = 1 ∷ 13 ∷ 14 ∷ 15 ∷ 2 ∷ 19 ∷ []
 
 abbrev pub settings_numbers : List ℕ
 settings_numbers = shape_numbers ++ (3 ∷ [])
 
--- coding in either manner; rebuilding looks for these and then 11
+-- what coding and rebuilding look for first; coding in either manner then looks for 20, rebuilding for 11
+abbrev pub lent_numbers : List ℕ
+lent_numbers = settings_numbers ++ (5 ∷ 6 ∷ 7 ∷ [])
+
 abbrev pub coding_numbers : List ℕ
-coding_numbers = settings_numbers ++ (5 ∷ 6 ∷ 7 ∷ [])
+coding_numbers = lent_numbers ++ (20 ∷ [])
 
 abbrev pub rebuilding_numbers : List ℕ
-rebuilding_numbers = coding_numbers ++ (11 ∷ [])
+rebuilding_numbers = lent_numbers ++ (11 ∷ [])
 
 -- a level buffer alone
 abbrev pub levels_numbers : List ℕ

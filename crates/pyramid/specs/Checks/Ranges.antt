@@ -7,7 +7,7 @@ use Rattle.pyramid.specs.Definitions.Sizes.{columns_at, rows_at}
 use Rattle.pyramid.specs.Definitions.Pyramid.{average}
 use Rattle.pyramid.specs.Definitions.Rebuilding.{value_of}
 use Rattle.pyramid.specs.Definitions.Manners.{reference, difference, index}
-use Rattle.pyramid.specs.Definitions.Buffers.{Bytes, pixels}
+use Rattle.pyramid.specs.Definitions.Buffers.{pixels}
 use Rattle.pyramid.specs.Definitions.Refusals.{limit, coding_refusal}
 
 -- at a node of level l of averages g: what is within so much of 0
@@ -20,5 +20,5 @@ pub record WithinLimit (s : Settings) (manner : Manner) (g : ℕ → ℕ → ℕ
 -- a picture is legal where coding accepts it; at each node of each level of its pyramid
 abbrev pub Ranges : Type 0
 Ranges =
-    (s : Settings) (manner : Manner) (picture : List ℕ) (levels work : List ℤ) → Bytes picture → coding_refusal s picture levels work ≡ 0
+    (s : Settings) (manner : Manner) (picture : List ℕ) (levels work : List ℤ) → coding_refusal s picture levels work ≡ 0
     → (l i j : ℕ) → l ≤ s.depth → i < columns_at s l → j < rows_at s l → WithinLimit s manner (average s (pixels s.columns picture)) l i j

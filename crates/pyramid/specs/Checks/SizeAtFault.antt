@@ -1,7 +1,7 @@
 -- Which size is at fault (document 02, P1): which settings are lawful has not changed, and what 13, 14 and 15 say of the size. Assumes nothing.
 use Rattle.std.specs.Prelude.{◌≡◌, ◌↔◌, Bool, cond, ◌&&◌, List, [], ◌∷◌, ℕ, ◌<◌, T, replicate}
 use Rattle.pyramid.specs.declared.Settings.{Settings}
-use Rattle.pyramid.specs.Definitions.Settings.{size_ok, depth_ok, divides, kernel_ok, bins_ok}
+use Rattle.pyramid.specs.Definitions.Settings.{size_ok, depth_ok, divides, kernel_ok, black_white_ok, bins_ok}
 use Rattle.pyramid.specs.Definitions.Depth.{deepest_depth}
 use Rattle.pyramid.specs.Definitions.Refusals.{unless, first, shape_refusal, settings_refusal}
 use Rattle.pyramid.specs.Checks.Numbers.{one_of}
@@ -20,11 +20,11 @@ module _ (s : Settings) where
   size_before = size_ok s.columns s.rows && (depth_ok s.depth && (divides s.depth s.columns && divides s.depth s.rows))
 
   abbrev pub refusal_before : ℕ
-  refusal_before = first (unless size_before 1 ∷ unless (kernel_ok s.kernel) 2 ∷ unless (bins_ok s) 3 ∷ [])
+  refusal_before = first (unless size_before 1 ∷ unless (kernel_ok s.kernel) 2 ∷ unless (black_white_ok s.black s.white) 19 ∷ unless (bins_ok s) 3 ∷ [])
 
 -- a shape of C columns, R rows and N, as the examples have them
 abbrev pub shape_of : ℕ → ℕ → ℕ → Settings
-shape_of columns rows depth = record { columns = columns; rows = rows; depth = depth; kernel = 4; bins = replicate 7 1 }
+shape_of columns rows depth = record { columns = columns; rows = rows; depth = depth; kernel = 4; black = 0; white = 255; bins = replicate 7 1 }
 
 pub record SizeAtFault : Type 0 where
   -- where document 01 gave 1, one of 1, 13, 14, 15 is given; every other answer has stayed, 0 among them

@@ -14,7 +14,7 @@ use Rattle.pyramid.specs.Definitions.Calls.{coding, rebuilding}
 
 -- `negsuc n` is -(n + 1). 3 by 3 with one level above it: the kernel, and the bins of levels 0 and 1
 abbrev pub small : ℕ → ℕ → ℕ → Settings
-small k b0 b1 = record { columns = 3; rows = 3; depth = 1; kernel = k; bins = b0 ∷ b1 ∷ 0 ∷ 0 ∷ 0 ∷ 0 ∷ 0 ∷ [] }
+small k b0 b1 = record { columns = 3; rows = 3; depth = 1; kernel = k; black = 0; white = 255; bins = b0 ∷ b1 ∷ 0 ∷ 0 ∷ 0 ∷ 0 ∷ 0 ∷ [] }
 
 -- v at the centre of 3 by 3 and w elsewhere
 abbrev pub centred : {A : Type 0} → A → A → List A

@@ -1,4 +1,4 @@
--- Rebuilding (document 01, "Pyramid steps"), level by level, and the clamp of the final picture. Assumes nothing.
+-- Rebuilding (document 01, "Pyramid steps"), level by level, and the clamp of the final picture (document 02, P5). Assumes nothing.
 use Rattle.std.specs.Prelude.{ℕ, zero, suc, ◌-◌, min, max, ℤ, pos, negsuc, ◌+ℤ◌, ◌*ℤ◌}
 use Rattle.pyramid.specs.declared.Settings.{Settings}
 use Rattle.pyramid.specs.Definitions.Settings.{bin}
@@ -19,14 +19,7 @@ module _ (s : Settings) where
   abbrev pub rebuilt : (ℕ → Level) → ℕ → Level
   rebuilt m l = rebuild m (s.depth - l) l
 
-  -- the ends that the final picture is clamped to
-  abbrev pub lowest : ℕ
-  lowest = 0
-
-  abbrev pub highest : ℕ
-  highest = 255
-
-  -- a pixel of the final picture
+  -- a pixel of the final picture, which is clamped to black and white
   unfoldable pub clamp : ℤ → ℕ
-  clamp (pos n) = max lowest (min n highest)
-  clamp (negsuc n) = lowest
+  clamp (pos n) = max s.black (min n s.white)
+  clamp (negsuc n) = s.black

@@ -1,5 +1,5 @@
--- The rules of the settings (document 01, "Settings"), each a test of its own. Assumes nothing.
-use Rattle.std.specs.Prelude.{Bool, cond, ◌&&◌, ℕ, ◌-◌, ◌%◌, ◌^◌, leb, eqb, get_or}
+-- The rules of the settings (document 01, "Settings"; document 02, P5), each a test of its own. Assumes nothing.
+use Rattle.std.specs.Prelude.{Bool, cond, ◌&&◌, ℕ, ◌-◌, ◌%◌, ◌^◌, leb, ltb, eqb, get_or}
 use Rattle.mathematics.specs.Definitions.Tests.{all_below}
 use Rattle.pyramid.specs.declared.Settings.{Settings}
 
@@ -22,6 +22,10 @@ divides depth side = eqb ((side - 1) % 2 ^ depth) 0
 -- k, the kernel: 3, 4, 5 or 6
 unfoldable pub kernel_ok : ℕ → Bool
 kernel_ok kernel = leb 3 kernel && leb kernel 6
+
+-- black is below white, and white is at most 255
+unfoldable pub black_white_ok : ℕ → ℕ → Bool
+black_white_ok black white = ltb black white && leb white 255
 
 -- the bin of level l stands in slot l
 abbrev pub bin : Settings → ℕ → ℕ

@@ -1,5 +1,5 @@
 -- What lawful settings are, as facts (document 01, "Settings"): what functions inside this crate ask of their caller. Assumes nothing.
-use Rattle.std.specs.Prelude.{◌≡◌, ℕ, ◌-◌, ◌%◌, ◌^◌, ◌≤◌}
+use Rattle.std.specs.Prelude.{◌≡◌, ℕ, ◌-◌, ◌%◌, ◌^◌, ◌≤◌, ◌<◌}
 use Rattle.pyramid.specs.declared.Settings.{Settings}
 use Rattle.pyramid.specs.Definitions.Settings.{bin}
 
@@ -13,6 +13,10 @@ pub record Kernel (k : ℕ) : Type 0 where
   pub least : 3 ≤ k
   pub most : k ≤ 6
 
+pub record BlackWhite (black white : ℕ) : Type 0 where
+  pub below : black < white
+  pub most : white ≤ 255
+
 pub record LawfulBin (n : ℕ) : Type 0 where
   pub least : 1 ≤ n
   pub most : n ≤ 255
@@ -23,6 +27,7 @@ pub record Shaped (s : Settings) : Type 0 where
   pub across : Side s.columns s.depth
   pub along : Side s.rows s.depth
   pub kernel : Kernel s.kernel
+  pub greys : BlackWhite s.black s.white
 
 pub record Lawful (s : Settings) : Type 0 where
   pub shaped : Shaped s

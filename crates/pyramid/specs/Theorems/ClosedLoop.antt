@@ -8,7 +8,7 @@ use Rattle.pyramid.specs.Definitions.Settings.{bin}
 use Rattle.pyramid.specs.Definitions.Sizes.{columns_at, rows_at, total}
 use Rattle.pyramid.specs.Definitions.Pyramid.{average}
 use Rattle.pyramid.specs.Definitions.Bound.{bound_at}
-use Rattle.pyramid.specs.Definitions.Buffers.{Bytes, pixels, read_levels}
+use Rattle.pyramid.specs.Definitions.Buffers.{pixels, read_levels}
 use Rattle.pyramid.specs.Definitions.Calls.{CodingOutcome, RebuildingOutcome, coding, rebuilding}
 
 -- a closed-loop coding, and a rebuilding from the levels that it left, with buffers of any length and contents
@@ -30,7 +30,7 @@ module _ (s : Settings) (picture : List ℕ) (levels work : List ℤ) (target : 
 
 abbrev pub ClosedLoops : Type 0
 ClosedLoops =
-    (s : Settings) (picture : List ℕ) (levels work : List ℤ) (target : List ℕ) (target_work : List ℤ) → Bytes picture
+    (s : Settings) (picture : List ℕ) (levels work : List ℤ) (target : List ℕ) (target_work : List ℤ)
     → (closed s picture levels work target target_work).answer ≡ 0 → ReaderHas s picture levels work target target_work
 
 -- whichever coder made the levels, the open-loop bound holds of them: the closed-loop one is never above it, at any level

@@ -1,7 +1,7 @@
 -- `pyramid::checking::check_shape` meets its contract: one comparison with the deepest depth passes three rules. Assumes nothing.
 use mathlib.Core.Path.{sym, ◌∙◌}
 use Rattle.refusals.proofs.Outcomes.{refuses, accepts}
-use Rattle.refusals.specs.declared.Refusal.TheVariants.{Size, Kernel}
+use Rattle.refusals.specs.declared.Refusal.TheVariants.{Size, Kernel, BlackWhite}
 use Rattle.pyramid.specs.Definitions.Refusals.{shape_refusal}
 use Rattle.pyramid.proofs.Refusals.{first_nil, answers_fails, answers_passes}
 use Rattle.pyramid.proofs.SettingsTests.{size_positive}
@@ -18,10 +18,19 @@ deepest-requires c = size_positive _ _ (sym c.if-not-size_ok.ensures)
 pub returns-then-deepest-s : goal.returns-then-deepest-s
 returns-then-deepest-s c = refuses tt _ c.depth_refusal.ensures
 
-pub returns-else-kernel_ok : goal.returns-else-kernel_ok
-returns-else-kernel_ok c =
-    refuses tt Kernel (depth_passes _ (sym c.if-not-size_ok.ensures) (rw c.deepest.ensures at c.if-deepest-s.false) (answers_fails {number = 1} _ (sym c.if-kernel_ok.ensures)))
+pub returns-then-not-kernel_ok : goal.returns-then-not-kernel_ok
+returns-then-not-kernel_ok c =
+    refuses tt Kernel (depth_passes _ (sym c.if-not-size_ok.ensures) (rw c.deepest.ensures at c.if-deepest-s.false) (answers_fails {number = 1} _ (sym c.if-not-kernel_ok.ensures)))
 
-pub returns-then-kernel_ok : goal.returns-then-kernel_ok
-returns-then-kernel_ok c =
-    accepts tt (sym (depth_passes _ (sym c.if-not-size_ok.ensures) (rw c.deepest.ensures at c.if-deepest-s.false) (sym first_nil ∙ answers_passes 2 _ (sym c.if-kernel_ok.ensures))))
+pub returns-then-not-black_white_ok : goal.returns-then-not-black_white_ok
+returns-then-not-black_white_ok c =
+    refuses tt BlackWhite
+    (depth_passes _ (sym c.if-not-size_ok.ensures) (rw c.deepest.ensures at c.if-deepest-s.false)
+    (answers_fails {number = 18} _ (sym c.if-not-black_white_ok.ensures) ∙ answers_passes 2 _ (sym c.if-not-kernel_ok.ensures)))
+
+pub returns : goal.returns
+returns c =
+    accepts tt
+    (sym
+    (depth_passes _ (sym c.if-not-size_ok.ensures) (rw c.deepest.ensures at c.if-deepest-s.false)
+    (sym first_nil ∙ answers_passes 19 _ (sym c.if-not-black_white_ok.ensures) ∙ answers_passes 2 _ (sym c.if-not-kernel_ok.ensures))))

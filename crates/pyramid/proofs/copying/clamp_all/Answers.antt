@@ -13,10 +13,10 @@ loop-i-init c = filling_start _ _ _ _
 pub loop-i-preserved : goal.loop-i-preserved
 loop-i-preserved c =
     filling_next c.loop-i.invariant (omega arith) (omega arith)
-    (clamped_stored c.args.s (search rules) (search rules) c.clamp.ensures.value)
+    (c.min.ensures ∙ rw (← c.lawful.view_is, c.max.ensures) (clamped_stored c.lawful.inside.settings c.lawful.invariant.shaped.greys (search rules) (search rules) c.clamp.ensures.value))
     (omega arith)
 
 pub returns : goal.returns
 returns c =
     filling_end c.loop-i.invariant c.loop-i-test.false ∙ splice_whole _ _ (length-tabulate _ _ ∙ c.requires)
-    ∙ tabulate-map (clamp c.args.s) (pos 0) c.args.src.now
+    ∙ tabulate-map (clamp c.args.lawful) (pos 0) c.args.src.now

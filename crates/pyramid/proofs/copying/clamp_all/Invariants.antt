@@ -7,4 +7,4 @@ use Rattle.pyramid.proofs.copying.clamp_all.Given as goal
 
 abbrev pub invariant-loop-i : goal.invariant-loop-i
 invariant-loop-i l =
-    Filling 0 (length l.src) (λ k. clamp l.fn.s (get_or l.src k (pos 0))) l.initial.picture l.picture l.i
+    Filling 0 (length l.src) (λ k. clamp l.fn.lawful (get_or l.src k (pos 0))) l.initial.picture l.picture l.i
