@@ -6,7 +6,24 @@
 
 #include "lepsarvu.h"
 
-enum { COLUMNS = 97, ROWS = 65, DEPTH = 5, KERNEL = 4, PIXELS = COLUMNS * ROWS };
+enum { COLUMNS = 97, ROWS = 65, PIXELS = COLUMNS * ROWS };
+
+/* Of a camera that delivers grey from 16 to 235. Slot l of the bins is of level l; a slot above the depth holds 0. */
+static const lepsarvu_settings settings = {
+    .columns = COLUMNS,
+    .rows = ROWS,
+    .depth = 5,
+    .kernel = 4,
+    .black = 16,
+    .white = 235,
+    .bins = {12, 8, 6, 4, 3, 2, 0},
+};
+
+/* 6.5 percent before the drier, as the bits of a float; not fitted at the press. */
+static const lepsarvu_note note = {
+    .before_drier = {.kind = LEPSARVU_PERCENTAGE, .number = 0x40D00000},
+    .at_press = {.kind = LEPSARVU_NOT_FITTED, .number = 0},
+};
 
 static uint8_t picture[PIXELS], shown[PIXELS], file[LEPSARVU_MOST_FILE_BYTES];
 static int16_t levels[LEPSARVU_MOST_NODES];
@@ -21,11 +38,13 @@ static void must(const char *call, uint16_t answer)
     }
 }
 
+/* Every pixel must lie between black and white. */
 static void make_picture(void)
 {
+    int greys = settings.white - settings.black + 1;
     for (int at = 0; at < PIXELS; at++) {
         int column = at % COLUMNS, row = at / COLUMNS;
-        picture[at] = (uint8_t)((column * row / 16 + 3 * row + 37 * (column % 5)) % 256);
+        picture[at] = (uint8_t)(settings.black + (column * row / 16 + 3 * row + 37 * (column % 5)) % greys);
     }
 }
 
@@ -40,36 +59,31 @@ static int largest_difference(void)
 }
 
 /* The calls for the bounds and the coding are others; a file is as long, and is written, read and rebuilt alike. */
-static int code_closed_loop(const uint16_t bins[7], uint16_t nodes)
+static int code_closed_loop(uint16_t nodes)
 {
-    uint16_t bounds[7];
-    must("bounds", lepsarvu_closed_loop_bounds(COLUMNS, ROWS, DEPTH, KERNEL, bins, bounds));
-    must("coding", lepsarvu_closed_loop_coding(COLUMNS, ROWS, DEPTH, KERNEL, bins, picture, PIXELS, levels, nodes, work,
-                                               nodes));
-    must("rebuilding", lepsarvu_rebuilding(COLUMNS, ROWS, DEPTH, KERNEL, bins, levels, nodes, shown, PIXELS, work,
-                                           nodes));
+    uint16_t bounds[LEPSARVU_SLOTS];
+    must("bounds", lepsarvu_closed_loop_bounds(&settings, bounds));
+    must("coding", lepsarvu_closed_loop_coding(&settings, picture, PIXELS, levels, nodes, work, nodes));
+    must("rebuilding", lepsarvu_rebuilding(&settings, levels, nodes, shown, PIXELS, work, nodes));
     printf("closed-loop: bound %u, largest difference %d\n", bounds[0], largest_difference());
     return largest_difference() > bounds[0];
 }
 
 int main(void)
 {
-    const uint16_t bins[7] = {12, 8, 6, 4, 3, 2, 0};
-    uint16_t nodes, bounds[7], shape[4], read_bins[7];
-    uint8_t kinds[2];
-    uint32_t numbers[2];
+    lepsarvu_settings read_settings;
+    lepsarvu_note read_note;
+    uint16_t nodes, bounds[LEPSARVU_SLOTS];
     size_t size;
     make_picture();
-    must("total nodes", lepsarvu_total_nodes(COLUMNS, ROWS, DEPTH, KERNEL, bins, &nodes));
-    must("bounds", lepsarvu_level_bounds(COLUMNS, ROWS, DEPTH, KERNEL, bins, bounds));
-    must("coding", lepsarvu_coding(COLUMNS, ROWS, DEPTH, KERNEL, bins, picture, PIXELS, levels, nodes, work, nodes));
-    /* Readings: 6.5 percent before the drier, not fitted at the press. */
-    must("writing", lepsarvu_write_file(COLUMNS, ROWS, DEPTH, KERNEL, bins, 1, 0x40D00000, 0, 0, levels, nodes, file,
-                                        sizeof file, &size));
-    must("reading", lepsarvu_read_file(file, size, levels, nodes, shape, read_bins, kinds, numbers));
-    must("rebuilding", lepsarvu_rebuilding(shape[0], shape[1], shape[2], shape[3], read_bins, levels, nodes, shown,
-                                           PIXELS, work, nodes));
-    printf("picture %u by %u in a file of %zu bytes\n", shape[0], shape[1], size);
+    must("total nodes", lepsarvu_total_nodes(&settings, &nodes));
+    must("bounds", lepsarvu_level_bounds(&settings, bounds));
+    must("coding", lepsarvu_coding(&settings, picture, PIXELS, levels, nodes, work, nodes));
+    must("writing", lepsarvu_write_file(&settings, &note, levels, nodes, file, sizeof file, &size));
+    must("reading", lepsarvu_read_file(file, size, levels, nodes, &read_settings, &read_note));
+    must("rebuilding", lepsarvu_rebuilding(&read_settings, levels, nodes, shown, PIXELS, work, nodes));
+    printf("picture %u by %u in a file of %zu bytes\n", read_settings.columns, read_settings.rows, size);
+    printf("black %u, white %u\n", read_settings.black, read_settings.white);
     printf("bound %u, largest difference %d\n", bounds[0], largest_difference());
-    return largest_difference() > bounds[0] || code_closed_loop(bins, nodes);
+    return largest_difference() > bounds[0] || code_closed_loop(nodes);
 }

@@ -62,37 +62,45 @@ static void read_picture(const char *path, struct picture *it)
     must(lepsarvu_read_pgm(file, length, it->pixels, it->length, &it->columns, &it->rows));
 }
 
-/* Writes the picture's bale file, neither probe being fitted; answers its bytes, and the bound of level 0. */
-static size_t write_bale(const struct picture *it, const char *path, uint16_t *bound)
+/* The deepest pyramid of the picture's size, with the same bin at each level. A PGM picture may hold any grey: black is
+ * 0 and white 255. */
+static lepsarvu_settings settings_of(const struct picture *it)
 {
-    uint16_t depth, nodes, bins[7] = {0}, bounds[7];
+    lepsarvu_settings settings = {
+        .columns = it->columns, .rows = it->rows, .kernel = KERNEL, .black = 0, .white = 255};
+    must(lepsarvu_deepest_depth(it->columns, it->rows, &settings.depth));
+    for (int level = 0; level <= settings.depth; level++)
+        settings.bins[level] = BIN;
+    return settings;
+}
+
+/* Writes the picture's bale file, neither probe being fitted, and answers its bytes. */
+static size_t write_bale(const lepsarvu_settings *settings, const struct picture *it, const char *path)
+{
+    const lepsarvu_note note = {
+        .before_drier = {.kind = LEPSARVU_NOT_FITTED}, .at_press = {.kind = LEPSARVU_NOT_FITTED}};
+    uint16_t nodes;
     size_t size;
-    must(lepsarvu_deepest_depth(it->columns, it->rows, &depth));
-    for (int level = 0; level <= depth; level++)
-        bins[level] = BIN;
-    must(lepsarvu_level_bounds(it->columns, it->rows, depth, KERNEL, bins, bounds));
-    must(lepsarvu_total_nodes(it->columns, it->rows, depth, KERNEL, bins, &nodes));
-    must(lepsarvu_coding(it->columns, it->rows, depth, KERNEL, bins, it->pixels, it->length, levels, nodes, work,
-                         nodes));
-    must(lepsarvu_write_file(it->columns, it->rows, depth, KERNEL, bins, 0, 0, 0, 0, levels, nodes, file, sizeof file,
-                             &size));
+    must(lepsarvu_total_nodes(settings, &nodes));
+    must(lepsarvu_coding(settings, it->pixels, it->length, levels, nodes, work, nodes));
+    must(lepsarvu_write_file(settings, &note, levels, nodes, file, sizeof file, &size));
     store(path, size);
-    *bound = bounds[0];
     return size;
 }
 
 static void read_bale(const char *path, struct picture *it)
 {
-    uint16_t shape[4], bins[7], nodes;
-    uint8_t kinds[2];
-    uint32_t numbers[2];
+    lepsarvu_settings settings;
+    lepsarvu_note note;
+    uint16_t nodes;
     size_t length = load(path);
-    must(lepsarvu_check_file(file, length, shape, bins, kinds, numbers));
-    must(lepsarvu_total_nodes(shape[0], shape[1], shape[2], shape[3], bins, &nodes));
-    must(lepsarvu_read_file(file, length, levels, nodes, shape, bins, kinds, numbers));
-    *it = (struct picture){.columns = shape[0], .rows = shape[1], .length = (size_t)shape[0] * shape[1]};
-    must(lepsarvu_rebuilding(shape[0], shape[1], shape[2], shape[3], bins, levels, nodes, it->pixels, it->length, work,
-                             nodes));
+    must(lepsarvu_check_file(file, length, &settings, &note));
+    must(lepsarvu_total_nodes(&settings, &nodes));
+    must(lepsarvu_read_file(file, length, levels, nodes, &settings, &note));
+    it->columns = settings.columns;
+    it->rows = settings.rows;
+    it->length = (size_t)settings.columns * settings.rows;
+    must(lepsarvu_rebuilding(&settings, levels, nodes, it->pixels, it->length, work, nodes));
 }
 
 static void write_picture(const struct picture *it, const char *path)
@@ -102,20 +110,28 @@ static void write_picture(const struct picture *it, const char *path)
     store(path, size);
 }
 
+static int largest_difference(const struct picture *first, const struct picture *second)
+{
+    int largest = 0;
+    for (size_t at = 0; at < first->length; at++)
+        if (abs(first->pixels[at] - second->pixels[at]) > largest)
+            largest = abs(first->pixels[at] - second->pixels[at]);
+    return largest;
+}
+
 int main(int words, char **word)
 {
-    uint16_t bound;
-    int largest = 0;
+    uint16_t bounds[LEPSARVU_SLOTS];
     if (words != 4)
         fail("usage", "pgm IN.pgm OUT.bale BACK.pgm");
     read_picture(word[1], &coded);
-    size_t size = write_bale(&coded, word[2], &bound);
+    lepsarvu_settings settings = settings_of(&coded);
+    must(lepsarvu_level_bounds(&settings, bounds));
+    size_t size = write_bale(&settings, &coded, word[2]);
     read_bale(word[2], &shown);
     write_picture(&shown, word[3]);
-    for (size_t at = 0; at < coded.length; at++)
-        if (abs(coded.pixels[at] - shown.pixels[at]) > largest)
-            largest = abs(coded.pixels[at] - shown.pixels[at]);
+    int largest = largest_difference(&coded, &shown);
     printf("picture %u %u\nbale file of %zu bytes\n", coded.columns, coded.rows, size);
-    printf("no pixel differs by more than %u grey levels\nlargest difference %d\n", bound, largest);
-    return largest > bound;
+    printf("no pixel differs by more than %u grey levels\nlargest difference %d\n", bounds[0], largest);
+    return largest > bounds[0];
 }
