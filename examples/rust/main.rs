@@ -7,10 +7,24 @@ mod lepsarvu;
 
 use lepsarvu::{Answer, Note, Reading, Settings};
 
+/// Of a camera that delivers grey from 16 to 235. Slot l of the bins is of level l; a slot above the depth holds 0.
+const SETTINGS: Settings = Settings {
+    columns: 97,
+    rows: 65,
+    depth: 5,
+    kernel: 4,
+    black: 16,
+    white: 235,
+    bins: [12, 8, 6, 4, 3, 2, 0],
+};
+
+/// Every pixel must lie between black and white.
 fn make_picture(s: &Settings) -> Vec<u8> {
     let (columns, rows) = (usize::from(s.columns), usize::from(s.rows));
+    let (black, greys) = (usize::from(s.black), usize::from(s.white - s.black) + 1);
     let pixel = |at: usize| (at % columns, at / columns);
-    (0..columns * rows).map(pixel).map(|(x, y)| ((x * y / 16 + 3 * y + 37 * (x % 5)) % 256) as u8).collect()
+    let grey = |(x, y)| black + (x * y / 16 + 3 * y + 37 * (x % 5)) % greys;
+    (0..columns * rows).map(pixel).map(|at| grey(at) as u8).collect()
 }
 
 /// The bale file of a picture.
@@ -19,21 +33,24 @@ fn file_of(s: &Settings, picture: &[u8]) -> Answer<Vec<u8>> {
     let (mut levels, mut work) = (vec![0; nodes], vec![0; nodes]);
     lepsarvu::coding(s, picture, &mut levels, &mut work)?;
     // 6.5 percent before the drier, not fitted at the press.
-    let readings = [Reading { kind: 1, number: 6.5f32.to_bits() }, Reading { kind: 0, number: 0 }];
+    let note = Note {
+        before_drier: Reading { kind: 1, number: 6.5f32.to_bits() },
+        at_press: Reading { kind: 0, number: 0 },
+    };
     let mut file = vec![0; lepsarvu::file_size(s)?];
-    lepsarvu::write_file(&Note { settings: *s, readings }, &levels, &mut file)?;
+    lepsarvu::write_file(s, &note, &levels, &mut file)?;
     Ok(file)
 }
 
-/// The picture of a bale file.
-fn picture_of(file: &[u8]) -> Answer<Vec<u8>> {
+/// The settings of a bale file, and its picture.
+fn picture_of(file: &[u8]) -> Answer<(Settings, Vec<u8>)> {
     let s = lepsarvu::check_file(file)?.settings;
     let nodes = lepsarvu::total_nodes(&s)?;
     let (mut levels, mut work) = (vec![0; nodes], vec![0; nodes]);
     lepsarvu::read_file(file, &mut levels)?;
     let mut picture = vec![0; usize::from(s.columns) * usize::from(s.rows)];
     lepsarvu::rebuilding(&s, &levels, &mut picture, &mut work)?;
-    Ok(picture)
+    Ok((s, picture))
 }
 
 fn largest_difference(picture: &[u8], shown: &[u8]) -> u16 {
@@ -53,14 +70,15 @@ fn code_closed_loop(s: &Settings, picture: &[u8]) -> Answer<bool> {
 }
 
 fn run() -> Answer<bool> {
-    let s = Settings { columns: 97, rows: 65, depth: 5, kernel: 4, bins: [12, 8, 6, 4, 3, 2, 0] };
-    let picture = make_picture(&s);
-    let file = file_of(&s, &picture)?;
-    let largest = largest_difference(&picture, &picture_of(&file)?);
-    let bound = lepsarvu::level_bounds(&s)?[0];
-    println!("picture {} by {} in a file of {} bytes", s.columns, s.rows, file.len());
+    let picture = make_picture(&SETTINGS);
+    let file = file_of(&SETTINGS, &picture)?;
+    let (read, shown) = picture_of(&file)?;
+    let largest = largest_difference(&picture, &shown);
+    let bound = lepsarvu::level_bounds(&SETTINGS)?[0];
+    println!("picture {} by {} in a file of {} bytes", read.columns, read.rows, file.len());
+    println!("black {}, white {}", read.black, read.white);
     println!("bound {bound}, largest difference {largest}");
-    Ok(largest <= bound && code_closed_loop(&s, &picture)?)
+    Ok(largest <= bound && code_closed_loop(&SETTINGS, &picture)?)
 }
 
 fn main() {

@@ -10,6 +10,7 @@ use std::{env, fmt, fs, process};
 const KERNEL: u16 = 4;
 const BIN: u16 = 8;
 const NOT_FITTED: Reading = Reading { kind: 0, number: 0 };
+const NOTE: Note = Note { before_drier: NOT_FITTED, at_press: NOT_FITTED };
 
 struct Picture {
     columns: u16,
@@ -44,12 +45,13 @@ fn pgm_of(it: &Picture) -> Answer<Vec<u8>> {
     Ok(file)
 }
 
-/// The deepest pyramid of a size, with the same bin at each level.
+/// The deepest pyramid of the picture's size, with the same bin at each level. A PGM picture may hold any grey: black
+/// is 0 and white 255.
 fn settings_of(it: &Picture) -> Answer<Settings> {
     let depth = lepsarvu::deepest_depth(it.columns, it.rows)?;
     let mut bins = [0; 7];
     bins[..=usize::from(depth)].fill(BIN);
-    Ok(Settings { columns: it.columns, rows: it.rows, depth, kernel: KERNEL, bins })
+    Ok(Settings { columns: it.columns, rows: it.rows, depth, kernel: KERNEL, black: 0, white: 255, bins })
 }
 
 /// The bale file of a picture, neither probe being fitted.
@@ -58,7 +60,7 @@ fn bale_of(s: &Settings, it: &Picture) -> Answer<Vec<u8>> {
     let (mut levels, mut work) = (vec![0; nodes], vec![0; nodes]);
     lepsarvu::coding(s, &it.pixels, &mut levels, &mut work)?;
     let mut file = vec![0; lepsarvu::file_size(s)?];
-    lepsarvu::write_file(&Note { settings: *s, readings: [NOT_FITTED; 2] }, &levels, &mut file)?;
+    lepsarvu::write_file(s, &NOTE, &levels, &mut file)?;
     Ok(file)
 }
 
