@@ -1,76 +1,12 @@
-/* Coding, rebuilding, bounds, deepest depth and number of nodes in plain C, written from document 01, P1 of document 02
- * and Burt and Adelson (1983) alone. Nothing here is made fast: every rule is written the way the papers print it.
- * Closed-loop coding and its bounds are in plain_closed.c. */
+/* Coding and rebuilding in plain C, written from document 01, P5 of document 02 and Burt and Adelson (1983) alone.
+ * Nothing here is made fast: every rule is written the way the papers print it. Closed-loop coding and its bounds are in
+ * plain_closed.c, what settings need alone in plain_settings.c. */
 #include "plain_steps.h"
 
-enum { MOST_DEPTH = 6, LEAST_SIDE = 2, SHARE = 400 };
+enum { SHARE = 400 };
 
 /* Slot l for level l: the averages g (coding) or the unclamped values r (rebuilding). */
 static struct plain_level pyramid[SLOTS];
-
-/* Settings: level l has (C - 1) / 2^l + 1 columns; rows alike. */
-int64_t plain_side(int64_t side, int64_t level)
-{
-    int64_t power = (int64_t)1 << level;
-    return (side - 1) / power + 1;
-}
-
-/* Settings: T is the number of nodes of levels 0 to N together. */
-int64_t plain_total(int64_t columns, int64_t rows, int64_t depth)
-{
-    int64_t total = 0;
-    for (int64_t level = 0; level <= depth; level++)
-        total += plain_side(columns, level) * plain_side(rows, level);
-    return total;
-}
-
-/* Settings: C and R are each 2 to 129. */
-static int size_ok(int64_t columns, int64_t rows)
-{
-    return columns >= LEAST_SIDE && columns <= MOST_SIDE && rows >= LEAST_SIDE && rows <= MOST_SIDE;
-}
-
-/* Settings: 2^N divides a side less 1. N is 0 to 6. */
-static int divides(int64_t depth, int64_t side)
-{
-    int64_t power = (int64_t)1 << depth;
-    return (side - 1) % power == 0;
-}
-
-/* Refusals 1 (C or R is not 2 to 129), 13 (N is above 6), 14 (2^N does not divide C - 1), 15 (2^N does not divide
- * R - 1) and 2 (k is not 3 to 6), in this order. */
-uint16_t plain_shape_refusal(int64_t columns, int64_t rows, int64_t depth, int64_t kernel)
-{
-    if (!size_ok(columns, rows))
-        return 1;
-    if (depth > MOST_DEPTH)
-        return 13;
-    if (!divides(depth, columns))
-        return 14;
-    if (!divides(depth, rows))
-        return 15;
-    if (kernel < 3 || kernel > 6)
-        return 2;
-    return 0;
-}
-
-/* Settings: a bin in use is 1 to 255. */
-int plain_bin_ok(int64_t bin)
-{
-    return bin >= 1 && bin <= 255;
-}
-
-/* The shape's refusals, then 3 (slots 0 to N hold lawful bins, slots above N hold 0). */
-uint16_t plain_settings_refusal(int64_t columns, int64_t rows, int64_t depth, int64_t kernel, const uint16_t *bins)
-{
-    uint16_t refusal = plain_shape_refusal(columns, rows, depth, kernel);
-    if (refusal != 0)
-        return refusal;
-    for (int64_t level = 0; level < SLOTS; level++)
-        if (level <= depth ? !plain_bin_ok(bins[level]) : bins[level] != 0)
-            return 3;
-    return 0;
-}
 
 /* Refusal 11's condition, turned round: index times bin is within -4,096 to 4,096. */
 int plain_value_ok(int64_t index, int64_t bin)
@@ -78,16 +14,29 @@ int plain_value_ok(int64_t index, int64_t bin)
     return index * bin >= -MOST_VALUE && index * bin <= MOST_VALUE;
 }
 
-/* Refusals 5 (picture not C x R), 6 (level buffer not T) and 7 (work buffer below T), in this order. */
-uint16_t plain_lengths_refusal(int64_t columns, int64_t rows, int64_t depth, size_t picture_length,
-                               size_t levels_length, size_t work_length)
+/* The settings' refusals, then 5 (picture not C x R), 6 (level buffer not T) and 7 (work buffer below T). */
+static uint16_t buffers_refusal(const lepsarvu_settings *s, size_t picture_length, size_t levels_length,
+                                size_t work_length)
 {
-    size_t total = (size_t)plain_total(columns, rows, depth);
-    if (picture_length != (size_t)(columns * rows))
+    uint16_t refusal = plain_settings_refusal(s);
+    if (refusal != 0)
+        return refusal;
+    if (picture_length != (size_t)s->columns * s->rows)
         return 5;
-    if (levels_length != total)
+    if (levels_length != (size_t)plain_total(s))
         return 6;
-    return work_length < total ? 7 : 0;
+    return work_length < (size_t)plain_total(s) ? 7 : 0;
+}
+
+/* Those, then P5's 20 (a pixel lies outside black and white), last of all in both coders. */
+uint16_t plain_coding_refusal(const lepsarvu_settings *s, const uint8_t *picture, size_t picture_length,
+                              size_t levels_length, size_t work_length)
+{
+    uint16_t refusal = buffers_refusal(s, picture_length, levels_length, work_length);
+    for (size_t at = 0; refusal == 0 && at < picture_length; at++)
+        if (picture[at] < s->black || picture[at] > s->white)
+            refusal = 20;
+    return refusal;
 }
 
 /* The paper's weights with a = k/10, that is a, 1/4 and 1/4 - a/2, in twentieths: 2k, 5 and 5 - k. */
@@ -150,31 +99,30 @@ static int64_t expand_node(const struct plain_level *above, int64_t kernel, int6
 }
 
 /* What coding takes from a node and rebuilding adds to it: EXPAND of the next level up; 0 at the top. */
-int64_t plain_predicted(const struct plain_level *of, int64_t level, int64_t depth, int64_t kernel, int64_t i,
-                        int64_t j)
+int64_t plain_predicted(const struct plain_level *of, const lepsarvu_settings *s, int64_t level, int64_t i, int64_t j)
 {
-    return level == depth ? 0 : expand_node(&of[level + 1], kernel, i, j);
+    return level == s->depth ? 0 : expand_node(&of[level + 1], s->kernel, i, j);
 }
 
 /* Settings: the columns and rows of every level. */
-void plain_size_levels(struct plain_level *of, int64_t columns, int64_t rows, int64_t depth)
+void plain_size_levels(struct plain_level *of, const lepsarvu_settings *s)
 {
-    for (int64_t level = 0; level <= depth; level++) {
-        of[level].columns = plain_side(columns, level);
-        of[level].rows = plain_side(rows, level);
+    for (int64_t level = 0; level <= s->depth; level++) {
+        of[level].columns = plain_side(s->columns, level);
+        of[level].rows = plain_side(s->rows, level);
     }
 }
 
 /* Coding: g0 is the picture, each next g is REDUCE of the last. */
-void plain_average_levels(struct plain_level *of, int64_t depth, int64_t kernel, const uint8_t *picture)
+void plain_average_levels(struct plain_level *of, const lepsarvu_settings *s, const uint8_t *picture)
 {
     for (int64_t j = 0; j < of[0].rows; j++)
         for (int64_t i = 0; i < of[0].columns; i++)
             of[0].at[j][i] = picture[j * of[0].columns + i];
-    for (int64_t level = 1; level <= depth; level++)
+    for (int64_t level = 1; level <= s->depth; level++)
         for (int64_t j = 0; j < of[level].rows; j++)
             for (int64_t i = 0; i < of[level].columns; i++)
-                of[level].at[j][i] = reduce_node(&of[level - 1], kernel, i, j);
+                of[level].at[j][i] = reduce_node(&of[level - 1], s->kernel, i, j);
 }
 
 /* Bin rule: the only whole number m with (2m - 1)n < 2L <= (2m + 1)n. */
@@ -190,23 +138,20 @@ int64_t plain_index_of(int64_t value, int64_t bin)
 
 /* Coding: L is g less EXPAND of the next g up, at the top g itself; each L becomes its index. Buffers: level N first,
  * level 0 last, row after row; work gets g. */
-static uint16_t coding(uint16_t columns, uint16_t rows, uint16_t depth, uint16_t kernel, const uint16_t bins[7],
-                       const uint8_t *picture, size_t picture_length, int16_t *levels, size_t levels_length,
-                       int32_t *work, size_t work_length)
+static uint16_t coding(const lepsarvu_settings *s, const uint8_t *picture, size_t picture_length, int16_t *levels,
+                       size_t levels_length, int32_t *work, size_t work_length)
 {
-    uint16_t refusal = plain_settings_refusal(columns, rows, depth, kernel, bins);
-    if (refusal == 0)
-        refusal = plain_lengths_refusal(columns, rows, depth, picture_length, levels_length, work_length);
+    uint16_t refusal = plain_coding_refusal(s, picture, picture_length, levels_length, work_length);
     if (refusal != 0)
         return refusal;
-    plain_size_levels(pyramid, columns, rows, depth);
-    plain_average_levels(pyramid, depth, kernel, picture);
+    plain_size_levels(pyramid, s);
+    plain_average_levels(pyramid, s, picture);
     int64_t place = 0;
-    for (int64_t level = depth; level >= 0; level--)
+    for (int64_t level = s->depth; level >= 0; level--)
         for (int64_t j = 0; j < pyramid[level].rows; j++)
             for (int64_t i = 0; i < pyramid[level].columns; i++) {
-                int64_t difference = pyramid[level].at[j][i] - plain_predicted(pyramid, level, depth, kernel, i, j);
-                levels[place] = (int16_t)plain_index_of(difference, bins[level]);
+                int64_t difference = pyramid[level].at[j][i] - plain_predicted(pyramid, s, level, i, j);
+                levels[place] = (int16_t)plain_index_of(difference, s->bins[level]);
                 work[place] = (int32_t)pyramid[level].at[j][i];
                 place++;
             }
@@ -214,95 +159,53 @@ static uint16_t coding(uint16_t columns, uint16_t rows, uint16_t depth, uint16_t
 }
 
 /* Refusal 11: an index of some level times that level's bin is outside -4,096 to 4,096. */
-static uint16_t values_refusal(int64_t columns, int64_t rows, int64_t depth, const uint16_t *bins,
-                               const int16_t *levels)
+uint16_t plain_values_refusal(const lepsarvu_settings *s, const int16_t *levels)
 {
-    int64_t place = 0;
-    for (int64_t level = depth; level >= 0; level--) {
-        int64_t nodes = plain_side(columns, level) * plain_side(rows, level);
-        for (int64_t node = 0; node < nodes; node++)
-            if (!plain_value_ok(levels[place + node], bins[level]))
+    for (int64_t level = s->depth; level >= 0; level--)
+        for (int64_t left = plain_nodes(s, level); left > 0; left--)
+            if (!plain_value_ok(*levels++, s->bins[level]))
                 return 11;
-        place += nodes;
-    }
     return 0;
 }
 
-/* Rebuilding: only the final picture is clamped, to 0 to 255. */
-static uint8_t clamped(int64_t value)
+/* Rebuilding: only the final picture is clamped, to black and white. */
+static uint8_t clamped(const lepsarvu_settings *s, int64_t value)
 {
-    return (uint8_t)(value < 0 ? 0 : value > 255 ? 255 : value);
+    return (uint8_t)(value < s->black ? s->black : value > s->white ? s->white : value);
 }
 
 /* Rebuilding: r of level N is the top's values; below it r is the level's values plus EXPAND of the next r up. Work
  * gets the unclamped r, level N first; the picture gets r of level 0, clamped. */
-static uint16_t rebuilding(uint16_t columns, uint16_t rows, uint16_t depth, uint16_t kernel, const uint16_t bins[7],
-                           const int16_t *levels, size_t levels_length, uint8_t *picture, size_t picture_length,
-                           int32_t *work, size_t work_length)
+static uint16_t rebuilding(const lepsarvu_settings *s, const int16_t *levels, size_t levels_length, uint8_t *picture,
+                           size_t picture_length, int32_t *work, size_t work_length)
 {
-    uint16_t refusal = plain_settings_refusal(columns, rows, depth, kernel, bins);
+    uint16_t refusal = buffers_refusal(s, picture_length, levels_length, work_length);
     if (refusal == 0)
-        refusal = plain_lengths_refusal(columns, rows, depth, picture_length, levels_length, work_length);
-    if (refusal == 0)
-        refusal = values_refusal(columns, rows, depth, bins, levels);
+        refusal = plain_values_refusal(s, levels);
     if (refusal != 0)
         return refusal;
-    plain_size_levels(pyramid, columns, rows, depth);
+    plain_size_levels(pyramid, s);
     int64_t place = 0;
-    for (int64_t level = depth; level >= 0; level--)
+    for (int64_t level = s->depth; level >= 0; level--)
         for (int64_t j = 0; j < pyramid[level].rows; j++)
             for (int64_t i = 0; i < pyramid[level].columns; i++) {
-                int64_t value = (int64_t)levels[place] * bins[level];
-                pyramid[level].at[j][i] = value + plain_predicted(pyramid, level, depth, kernel, i, j);
+                int64_t value = (int64_t)levels[place] * s->bins[level];
+                pyramid[level].at[j][i] = value + plain_predicted(pyramid, s, level, i, j);
                 work[place] = (int32_t)pyramid[level].at[j][i];
                 place++;
             }
-    for (int64_t j = 0; j < rows; j++)
-        for (int64_t i = 0; i < columns; i++)
-            picture[j * columns + i] = clamped(pyramid[0].at[j][i]);
+    for (int64_t j = 0; j < s->rows; j++)
+        for (int64_t i = 0; i < s->columns; i++)
+            picture[j * s->columns + i] = clamped(s, pyramid[0].at[j][i]);
     return 0;
-}
-
-/* Bound (demand 3): at the top half its bin rounded down; below it the multiplier (100 hundredths, 196 for kernel 6)
- * times the bound above, rounded up, plus half the level's own bin rounded down. Slots above N get 0. */
-static uint16_t level_bounds(uint16_t columns, uint16_t rows, uint16_t depth, uint16_t kernel,
-                             const uint16_t bins[7], uint16_t bounds[7])
-{
-    uint16_t refusal = plain_settings_refusal(columns, rows, depth, kernel, bins);
-    if (refusal != 0)
-        return refusal;
-    int64_t multiplier = kernel == 6 ? 196 : 100;
-    int64_t bound = 0; /* nothing above the top: its bound is half its bin alone */
-    for (int64_t level = SLOTS - 1; level >= 0; level--) {
-        if (level <= depth)
-            bound = (multiplier * bound + 99) / 100 + bins[level] / 2;
-        bounds[level] = (uint16_t)bound;
-    }
-    return 0;
-}
-
-/* Deepest depth: the largest N of 0 to 6 that the size allows. Refusal 1 on size only. */
-static uint16_t deepest_depth(uint16_t columns, uint16_t rows, uint16_t *depth)
-{
-    if (!size_ok(columns, rows))
-        return 1;
-    for (uint16_t n = 0; n <= MOST_DEPTH; n++)
-        if (divides(n, columns) && divides(n, rows))
-            *depth = n;
-    return 0;
-}
-
-/* Settings: T, for lawful settings, and the settings' refusals. */
-static uint16_t total_nodes(uint16_t columns, uint16_t rows, uint16_t depth, uint16_t kernel,
-                            const uint16_t bins[7], uint16_t *nodes)
-{
-    uint16_t refusal = plain_settings_refusal(columns, rows, depth, kernel, bins);
-    if (refusal == 0)
-        *nodes = (uint16_t)plain_total(columns, rows, depth);
-    return refusal;
 }
 
 const struct pyramid_calls plain_pyramid = {
-    coding,        plain_closed_loop_coding, rebuilding, level_bounds, plain_closed_loop_bounds,
-    deepest_depth, total_nodes,
+    coding,
+    plain_closed_loop_coding,
+    rebuilding,
+    plain_level_bounds,
+    plain_closed_loop_bounds,
+    plain_deepest_depth,
+    plain_total_nodes,
 };

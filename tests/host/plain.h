@@ -1,5 +1,6 @@
-/* The calls of include/lepsarvu.h in plain C, written from document 01, P1 and P2 of document 02 and Burt and Adelson
- * (1983): slow, 64-bit, the 25 products of each node added up one by one, a PGM file's header taken byte by byte. */
+/* The calls of include/lepsarvu.h in plain C, written from document 01, P1, P2 and P5 of document 02 and Burt and
+ * Adelson (1983): slow, 64-bit, the 25 products of each node added up one by one, a PGM file's header taken byte by
+ * byte. */
 #ifndef HOST_PLAIN_H
 #define HOST_PLAIN_H
 
@@ -11,12 +12,19 @@ extern const struct pgm_calls plain_pgm;
 
 enum { MOST_VALUE = 4096 };
 
-/* Shared by the two parts. A side is a number of columns or rows. */
-int64_t plain_side(int64_t side, int64_t level);
-int64_t plain_total(int64_t columns, int64_t rows, int64_t depth);
-uint16_t plain_shape_refusal(int64_t columns, int64_t rows, int64_t depth, int64_t kernel);
-uint16_t plain_settings_refusal(int64_t columns, int64_t rows, int64_t depth, int64_t kernel, const uint16_t *bins);
+/* Shared by the parts. The nodes of a level, and of all. */
+int64_t plain_nodes(const lepsarvu_settings *s, int64_t level);
+int64_t plain_total(const lepsarvu_settings *s);
+
+/* The first refusal of the size and depth, of all but the bins, and of all settings. */
+uint16_t plain_size_refusal(const lepsarvu_settings *s);
+uint16_t plain_shape_refusal(const lepsarvu_settings *s);
+uint16_t plain_settings_refusal(const lepsarvu_settings *s);
+int plain_greys_ok(const lepsarvu_settings *s);
 int plain_bin_ok(int64_t bin);
+
+/* Of the indices of lawful settings. */
+uint16_t plain_values_refusal(const lepsarvu_settings *s, const int16_t *levels);
 int plain_value_ok(int64_t index, int64_t bin);
 
 #endif

@@ -1,15 +1,10 @@
-/* The bale file in plain C: see plain.h. */
+/* The bale file in plain C, with P5's two forms of the shape section: see plain.h. */
 #include "plain.h"
 
 #include <math.h>
 #include <string.h>
 
-/* What a file says before its levels. */
-struct note {
-    uint16_t shape[4], bins[7];
-    uint8_t kinds[2];
-    uint32_t numbers[2];
-};
+enum { SHORT_SHAPE = 4, LONG_SHAPE = 6, WHITEST = 255 };
 
 /* A file being read: the part that is left. */
 struct rest {
@@ -17,28 +12,40 @@ struct rest {
     size_t length;
 };
 
-static int reading_ok(uint8_t kind, uint32_t number)
+static int reading_ok(lepsarvu_reading it)
 {
     float percentage;
-    memcpy(&percentage, &number, sizeof percentage);
-    if (kind == 0)
-        return number == 0;
-    if (kind == 1)
+    memcpy(&percentage, &it.number, sizeof percentage);
+    if (it.kind == LEPSARVU_NOT_FITTED)
+        return it.number == 0;
+    if (it.kind == LEPSARVU_PERCENTAGE)
         return !signbit(percentage) && percentage <= 100.0f;
-    return kind == 2 && number != 0 && number < 256;
+    return it.kind == LEPSARVU_FAULT && it.number != 0 && it.number < 256;
 }
 
-static size_t size_of(int64_t columns, int64_t rows, int64_t depth)
+static int note_ok(const lepsarvu_note *it)
 {
-    return (size_t)(24 + 4 * (depth + 1) + 2 * plain_total(columns, rows, depth));
+    return reading_ok(it->before_drier) && reading_ok(it->at_press);
 }
 
-static uint16_t file_size(uint16_t columns, uint16_t rows, uint16_t depth, uint16_t kernel, const uint16_t bins[7],
-                          size_t *size)
+/* P5: with 0 and 255 the shape section stays at count 4; else its count is 6. */
+static int64_t shape_count(const lepsarvu_settings *s)
 {
-    uint16_t refusal = plain_settings_refusal(columns, rows, depth, kernel, bins);
+    return s->black == 0 && s->white == WHITEST ? SHORT_SHAPE : LONG_SHAPE;
+}
+
+/* 24 + 4(N + 1) + 2T with count 4. */
+static size_t size_of(const lepsarvu_settings *s)
+{
+    int64_t more = shape_count(s) - SHORT_SHAPE;
+    return (size_t)(24 + 2 * more + 4 * (s->depth + 1) + 2 * plain_total(s));
+}
+
+static uint16_t file_size(const lepsarvu_settings *s, size_t *size)
+{
+    uint16_t refusal = plain_settings_refusal(s);
     if (refusal == 0)
-        *size = size_of(columns, rows, depth);
+        *size = size_of(s);
     return refusal;
 }
 
@@ -50,62 +57,59 @@ static uint8_t *put(uint8_t *to, uint32_t number, int bytes)
     return to;
 }
 
-static uint8_t *put_note(uint8_t *to, const struct note *it)
+static uint8_t *put_shape(uint8_t *to, const lepsarvu_settings *s)
 {
-    int depth = it->shape[2];
-    to = put(to, 4, 2);
-    for (int item = 0; item < 4; item++)
-        to = put(to, it->shape[item], 2);
-    to = put(to, (uint32_t)depth + 1, 2);
-    for (int level = depth; level >= 0; level--)
-        to = put(to, it->bins[level], 2);
+    const uint16_t item[LONG_SHAPE] = {s->columns, s->rows, s->depth, s->kernel, s->black, s->white};
+    int64_t count = shape_count(s);
+    to = put(to, (uint32_t)count, 2);
+    for (int64_t at = 0; at < count; at++)
+        to = put(to, item[at], 2);
+    return to;
+}
+
+static uint8_t *put_bins(uint8_t *to, const lepsarvu_settings *s)
+{
+    to = put(to, (uint32_t)s->depth + 1, 2);
+    for (int level = s->depth; level >= 0; level--)
+        to = put(to, s->bins[level], 2);
+    return to;
+}
+
+static uint8_t *put_note(uint8_t *to, const lepsarvu_note *note)
+{
+    const lepsarvu_reading reading[2] = {note->before_drier, note->at_press};
     to = put(to, 2, 2);
-    for (int reading = 0; reading < 2; reading++) {
-        to = put(to, it->kinds[reading], 1);
-        to = put(to, it->numbers[reading], 4);
+    for (int at = 0; at < 2; at++) {
+        to = put(to, reading[at].kind, 1);
+        to = put(to, reading[at].number, 4);
     }
     return to;
 }
 
-/* Refusal 11, or 0: an index of any level times its bin. */
-static uint16_t levels_refusal(const struct note *it, const int16_t *levels)
+static uint16_t write_refusal(const lepsarvu_settings *s, const lepsarvu_note *note, const int16_t *levels,
+                              size_t levels_length, size_t file_length)
 {
-    for (int level = it->shape[2]; level >= 0; level--)
-        for (int64_t left = plain_side(it->shape[0], level) * plain_side(it->shape[1], level); left > 0; left--)
-            if (!plain_value_ok(*levels++, it->bins[level]))
-                return 11;
-    return 0;
-}
-
-static uint16_t write_refusal(const struct note *it, const int16_t *levels, size_t levels_length, size_t file_length)
-{
-    const uint16_t *shape = it->shape;
-    uint16_t refusal = plain_settings_refusal(shape[0], shape[1], shape[2], shape[3], it->bins);
+    uint16_t refusal = plain_settings_refusal(s);
     if (refusal != 0)
         return refusal;
-    if (!reading_ok(it->kinds[0], it->numbers[0]) || !reading_ok(it->kinds[1], it->numbers[1]))
+    if (!note_ok(note))
         return 4;
-    if (levels_length != (size_t)plain_total(shape[0], shape[1], shape[2]))
+    if (levels_length != (size_t)plain_total(s))
         return 6;
-    if (file_length < size_of(shape[0], shape[1], shape[2]))
+    if (file_length < size_of(s))
         return 8;
-    return levels_refusal(it, levels);
+    return plain_values_refusal(s, levels);
 }
 
-static uint16_t write_file(uint16_t columns, uint16_t rows, uint16_t depth, uint16_t kernel, const uint16_t bins[7],
-                           uint8_t drier_kind, uint32_t drier_number, uint8_t press_kind, uint32_t press_number,
-                           const int16_t *levels, size_t levels_length, uint8_t *file, size_t file_length,
-                           size_t *size)
+static uint16_t write_file(const lepsarvu_settings *s, const lepsarvu_note *note, const int16_t *levels,
+                           size_t levels_length, uint8_t *file, size_t file_length, size_t *size)
 {
-    struct note it = {
-        {columns, rows, depth, kernel}, {0}, {drier_kind, press_kind}, {drier_number, press_number}};
-    memcpy(it.bins, bins, sizeof it.bins);
-    uint16_t refusal = write_refusal(&it, levels, levels_length, file_length);
+    uint16_t refusal = write_refusal(s, note, levels, levels_length, file_length);
     if (refusal != 0)
         return refusal;
-    uint8_t *to = put_note(file, &it);
-    for (int level = depth; level >= 0; level--) {
-        int64_t nodes = plain_side(columns, level) * plain_side(rows, level);
+    uint8_t *to = put_note(put_bins(put_shape(file, s), s), note);
+    for (int level = s->depth; level >= 0; level--) {
+        int64_t nodes = plain_nodes(s, level);
         to = put(to, (uint32_t)nodes, 2);
         for (; nodes > 0; nodes--)
             to = put(to, (uint32_t)*levels++, 2);
@@ -124,63 +128,73 @@ static uint32_t take(struct rest *file, int bytes)
     return number;
 }
 
-/* The start of a section: its count is there, it is right, and the items are there. */
-static uint16_t open_section(struct rest *file, int64_t count, size_t item_bytes)
+/* The start of a section: its count is there, it is one of two, which may be the same, and the items are there. */
+static uint16_t open_section(struct rest *file, int64_t first, int64_t second, size_t item_bytes, int64_t *count)
 {
     if (file->length < 2)
         return 9;
-    if (take(file, 2) != count)
+    *count = take(file, 2);
+    if (*count != first && *count != second)
         return 10;
-    return file->length < (size_t)count * item_bytes ? 9 : 0;
+    return file->length < (size_t)*count * item_bytes ? 9 : 0;
 }
 
-static uint16_t read_shape(struct rest *file, struct note *it)
+/* P5: black and white follow k; six items that need only be four are 10, before any is tried. */
+static uint16_t read_shape(struct rest *file, lepsarvu_settings *s)
 {
-    uint16_t refusal = open_section(file, 4, 2);
+    uint16_t item[LONG_SHAPE] = {0, 0, 0, 0, 0, WHITEST};
+    int64_t count;
+    uint16_t refusal = open_section(file, SHORT_SHAPE, LONG_SHAPE, 2, &count);
     if (refusal != 0)
         return refusal;
-    for (int item = 0; item < 4; item++)
-        it->shape[item] = (uint16_t)take(file, 2);
-    return plain_shape_refusal(it->shape[0], it->shape[1], it->shape[2], it->shape[3]);
+    for (int64_t at = 0; at < count; at++)
+        item[at] = (uint16_t)take(file, 2);
+    *s = (lepsarvu_settings){item[0], item[1], item[2], item[3], item[4], item[5], {0}};
+    return count == shape_count(s) ? plain_shape_refusal(s) : 10;
 }
 
-static uint16_t read_bins(struct rest *file, struct note *it)
+static uint16_t read_bins(struct rest *file, lepsarvu_settings *s)
 {
-    uint16_t refusal = open_section(file, it->shape[2] + 1, 2);
+    int64_t count = s->depth + 1;
+    uint16_t refusal = open_section(file, count, count, 2, &count);
     if (refusal != 0)
         return refusal;
-    for (int level = it->shape[2]; level >= 0; level--) {
-        it->bins[level] = (uint16_t)take(file, 2);
-        if (!plain_bin_ok(it->bins[level]))
+    for (int level = s->depth; level >= 0; level--) {
+        s->bins[level] = (uint16_t)take(file, 2);
+        if (!plain_bin_ok(s->bins[level]))
             refusal = 3;
     }
     return refusal;
 }
 
-static uint16_t read_readings(struct rest *file, struct note *it)
+static lepsarvu_reading take_reading(struct rest *file)
 {
-    uint16_t refusal = open_section(file, 2, 5);
+    lepsarvu_reading it;
+    it.kind = take(file, 1);
+    it.number = take(file, 4);
+    return it;
+}
+
+static uint16_t read_note(struct rest *file, lepsarvu_note *note)
+{
+    int64_t count;
+    uint16_t refusal = open_section(file, 2, 2, 5, &count);
     if (refusal != 0)
         return refusal;
-    for (int reading = 0; reading < 2; reading++) {
-        it->kinds[reading] = (uint8_t)take(file, 1);
-        it->numbers[reading] = take(file, 4);
-        if (!reading_ok(it->kinds[reading], it->numbers[reading]))
-            refusal = 4;
-    }
-    return refusal;
+    note->before_drier = take_reading(file);
+    note->at_press = take_reading(file);
+    return note_ok(note) ? 0 : 4;
 }
 
 /* One level's section; its indices go to the level buffer only if there is one. */
-static uint16_t read_level(struct rest *file, const struct note *it, int level, int16_t *levels)
+static uint16_t read_level(struct rest *file, int64_t nodes, int64_t bin, int16_t *levels)
 {
-    int64_t nodes = plain_side(it->shape[0], level) * plain_side(it->shape[1], level);
-    uint16_t refusal = open_section(file, nodes, 2);
+    uint16_t refusal = open_section(file, nodes, nodes, 2, &nodes);
     for (int64_t at = 0; refusal == 0 && at < nodes; at++) {
         int32_t index = (int32_t)take(file, 2);
         if (index > 32767)
             index -= 65536;
-        if (!plain_value_ok(index, it->bins[level]))
+        if (!plain_value_ok(index, bin))
             refusal = 11;
         if (levels)
             levels[at] = (int16_t)index;
@@ -189,52 +203,48 @@ static uint16_t read_level(struct rest *file, const struct note *it, int level, 
 }
 
 /* Reads all; `asked` says whether a level buffer of that length was lent. Fills `levels` even where it refuses. */
-static uint16_t read_all(struct rest file, struct note *it, int asked, size_t levels_length, int16_t *levels)
+static uint16_t read_all(struct rest file, lepsarvu_settings *s, lepsarvu_note *note, int asked, size_t levels_length,
+                         int16_t *levels)
 {
-    uint16_t refusal = read_shape(&file, it);
-    if (refusal == 0 && asked && levels_length != (size_t)plain_total(it->shape[0], it->shape[1], it->shape[2]))
+    uint16_t refusal = read_shape(&file, s);
+    if (refusal == 0 && asked && levels_length != (size_t)plain_total(s))
         refusal = 6;
     if (refusal == 0)
-        refusal = read_bins(&file, it);
+        refusal = read_bins(&file, s);
     if (refusal == 0)
-        refusal = read_readings(&file, it);
-    for (int level = it->shape[2]; refusal == 0 && level >= 0; level--) {
-        refusal = read_level(&file, it, level, levels);
+        refusal = read_note(&file, note);
+    for (int level = s->depth; refusal == 0 && level >= 0; level--) {
+        refusal = read_level(&file, plain_nodes(s, level), s->bins[level], levels);
         if (levels)
-            levels += plain_side(it->shape[0], level) * plain_side(it->shape[1], level);
+            levels += plain_nodes(s, level);
     }
     return refusal == 0 && file.length > 0 ? 12 : refusal;
 }
 
-static void hand_out(const struct note *it, uint16_t shape[4], uint16_t bins[7], uint8_t kinds[2],
-                     uint32_t numbers[2])
-{
-    memcpy(shape, it->shape, sizeof it->shape);
-    memcpy(bins, it->bins, sizeof it->bins);
-    memcpy(kinds, it->kinds, sizeof it->kinds);
-    memcpy(numbers, it->numbers, sizeof it->numbers);
-}
-
 static uint16_t read_file(const uint8_t *file, size_t file_length, int16_t *levels, size_t levels_length,
-                          uint16_t shape[4], uint16_t bins[7], uint8_t kinds[2], uint32_t numbers[2])
+                          lepsarvu_settings *settings, lepsarvu_note *note)
 {
     static int16_t indices[LEPSARVU_MOST_NODES];
-    struct note it = {{0}, {0}, {0}, {0}};
-    uint16_t refusal = read_all((struct rest){file, file_length}, &it, 1, levels_length, indices);
+    lepsarvu_settings s = {0, 0, 0, 0, 0, 0, {0}};
+    lepsarvu_note it;
+    uint16_t refusal = read_all((struct rest){file, file_length}, &s, &it, 1, levels_length, indices);
     if (refusal == 0) {
         memcpy(levels, indices, levels_length * sizeof *levels);
-        hand_out(&it, shape, bins, kinds, numbers);
+        *settings = s;
+        *note = it;
     }
     return refusal;
 }
 
-static uint16_t check_file(const uint8_t *file, size_t file_length, uint16_t shape[4], uint16_t bins[7],
-                           uint8_t kinds[2], uint32_t numbers[2])
+static uint16_t check_file(const uint8_t *file, size_t file_length, lepsarvu_settings *settings, lepsarvu_note *note)
 {
-    struct note it = {{0}, {0}, {0}, {0}};
-    uint16_t refusal = read_all((struct rest){file, file_length}, &it, 0, 0, NULL);
-    if (refusal == 0)
-        hand_out(&it, shape, bins, kinds, numbers);
+    lepsarvu_settings s = {0, 0, 0, 0, 0, 0, {0}};
+    lepsarvu_note it;
+    uint16_t refusal = read_all((struct rest){file, file_length}, &s, &it, 0, 0, NULL);
+    if (refusal == 0) {
+        *settings = s;
+        *note = it;
+    }
     return refusal;
 }
 
