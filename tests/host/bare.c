@@ -6,14 +6,22 @@
 
 enum { NODES = 13, PIXELS = 9, FILE_BYTES = 58, PGM_BYTES = 20, GUARD = 32, ROOM = 64, GUARD_BYTE = 0xA5, STEPS = 17,
        CHANGED = 64 };
-enum thing { BINS, PICTURE, SHOWN, LEVELS, READ, WORK, FILE_PART, NUMBER, SIZE, BOUNDS, SHAPE, READ_BINS, KINDS,
-             NUMBERS, PGM, COLUMNS, ROWS, THINGS };
+enum thing { SETTINGS, NOTE, PICTURE, SHOWN, LEVELS, READ, WORK, FILE_PART, NUMBER, SIZE, BOUNDS, READ_SETTINGS,
+             READ_NOTE, PGM, COLUMNS, ROWS, THINGS };
 
-static const uint16_t PIECE_BINS[7] = {10, 4, 0, 0, 0, 0, 0};
+static const lepsarvu_settings PIECE_SETTINGS = {3, 3, 1, 4, 0, 255, {10, 4, 0, 0, 0, 0, 0}};
+static const lepsarvu_note PIECE_NOTE = {{LEPSARVU_PERCENTAGE, 0x40D00000}, {LEPSARVU_NOT_FITTED, 0}};
 static const uint8_t PIECE[PIXELS] = {0, 0, 0, 0, 100, 0, 0, 0, 0};
 
-static const size_t BYTES[THINGS] = {14, PIXELS, PIXELS, 2 * NODES, 2 * NODES, 4 * NODES, FILE_BYTES, 2, sizeof(size_t),
-                                     14, 8,      14,     2,         8,         PGM_BYTES, 2,          2};
+/* What no step may write, and what it holds. */
+static const struct {
+    enum thing thing;
+    const void *contents;
+} GIVEN[] = {{SETTINGS, &PIECE_SETTINGS}, {NOTE, &PIECE_NOTE}, {PICTURE, PIECE}};
+
+static const size_t BYTES[THINGS] = {sizeof(lepsarvu_settings), sizeof(lepsarvu_note), PIXELS, PIXELS, 2 * NODES,
+                                     2 * NODES, 4 * NODES, FILE_BYTES, 2, sizeof(size_t), 14,
+                                     sizeof(lepsarvu_settings), sizeof(lepsarvu_note), PGM_BYTES, 2, 2};
 
 static struct {
     _Alignas(16) uint8_t bytes[GUARD + ROOM + GUARD];
@@ -53,13 +61,21 @@ static void lend(void)
 {
     for (int thing = 0; thing < THINGS; thing++)
         memset(lent[thing].bytes, GUARD_BYTE, sizeof lent[thing].bytes);
-    for (int slot = 0; slot < 7; slot++)
-        ((uint16_t *)at(BINS))[slot] = PIECE_BINS[slot];
-    for (int pixel = 0; pixel < PIXELS; pixel++)
-        ((uint8_t *)at(PICTURE))[pixel] = PIECE[pixel];
+    for (size_t which = 0; which < sizeof GIVEN / sizeof *GIVEN; which++)
+        memmove(at(GIVEN[which].thing), GIVEN[which].contents, BYTES[GIVEN[which].thing]);
 }
 
-/* All bytes before and after the things, and the two that no step writes, are as they were. */
+/* Whether so many bytes are those of something else. */
+static int same(const void *found, const void *expected, size_t bytes)
+{
+    const uint8_t *first = found, *second = expected;
+    int all = 1;
+    for (size_t place = 0; place < bytes; place++)
+        all &= first[place] == second[place];
+    return all;
+}
+
+/* All bytes before and after the things, and those that no step writes, are as they were. */
 static int kept(void)
 {
     int all = 1;
@@ -67,10 +83,8 @@ static int kept(void)
         for (size_t place = 0; place < sizeof lent[thing].bytes; place++)
             if (place < GUARD || place >= GUARD + BYTES[thing])
                 all &= lent[thing].bytes[place] == GUARD_BYTE;
-    for (int slot = 0; slot < 7; slot++)
-        all &= ((uint16_t *)at(BINS))[slot] == PIECE_BINS[slot];
-    for (int pixel = 0; pixel < PIXELS; pixel++)
-        all &= ((uint8_t *)at(PICTURE))[pixel] == PIECE[pixel];
+    for (size_t which = 0; which < sizeof GIVEN / sizeof *GIVEN; which++)
+        all &= same(at(GIVEN[which].thing), GIVEN[which].contents, BYTES[GIVEN[which].thing]);
     return all;
 }
 
@@ -83,14 +97,14 @@ static int step(int which)
     case 1:
         return lepsarvu_deepest_depth(3, 3, at(NUMBER)) == 0 && number_at(NUMBER) == 1;
     case 2:
-        return lepsarvu_total_nodes(3, 3, 1, 4, at(BINS), at(NUMBER)) == 0 && number_at(NUMBER) == NODES;
+        return lepsarvu_total_nodes(at(SETTINGS), at(NUMBER)) == 0 && number_at(NUMBER) == NODES;
     case 3:
-        return lepsarvu_level_bounds(3, 3, 1, 4, at(BINS), at(BOUNDS)) == 0 && bounds[0] == 7 && bounds[1] == 2;
+        return lepsarvu_level_bounds(at(SETTINGS), at(BOUNDS)) == 0 && bounds[0] == 7 && bounds[1] == 2;
     case 4:
-        return lepsarvu_coding(3, 3, 1, 4, at(BINS), at(PICTURE), PIXELS, at(LEVELS), NODES, at(WORK), NODES) == 0 &&
+        return lepsarvu_coding(at(SETTINGS), at(PICTURE), PIXELS, at(LEVELS), NODES, at(WORK), NODES) == 0 &&
                levels[8] == 7;
     default:
-        return lepsarvu_file_size(3, 3, 1, 4, at(BINS), at(SIZE)) == 0 && number_at(SIZE) == FILE_BYTES;
+        return lepsarvu_file_size(at(SETTINGS), at(SIZE)) == 0 && number_at(SIZE) == FILE_BYTES;
     }
 }
 
@@ -98,23 +112,20 @@ static int step(int which)
 static int late_step(int which)
 {
     const int16_t *read = at(READ);
-    const uint16_t *shape = at(SHAPE);
     const uint8_t *shown = at(SHOWN);
     switch (which) {
     case 6:
-        return lepsarvu_write_file(3, 3, 1, 4, at(BINS), 1, 0x40D00000, 0, 0, at(LEVELS), NODES, at(FILE_PART),
-                                   FILE_BYTES, at(SIZE)) == 0;
+        return lepsarvu_write_file(at(SETTINGS), at(NOTE), at(LEVELS), NODES, at(FILE_PART), FILE_BYTES,
+                                   at(SIZE)) == 0;
     case 7:
-        return lepsarvu_check_file(at(FILE_PART), number_at(SIZE), at(SHAPE), at(READ_BINS), at(KINDS),
-                                   at(NUMBERS)) == 0 &&
-               *(uint32_t *)at(NUMBERS) == 0x40D00000;
+        return lepsarvu_check_file(at(FILE_PART), number_at(SIZE), at(READ_SETTINGS), at(READ_NOTE)) == 0 &&
+               same(at(READ_NOTE), &PIECE_NOTE, sizeof PIECE_NOTE);
     case 8:
-        return lepsarvu_read_file(at(FILE_PART), number_at(SIZE), at(READ), NODES, at(SHAPE), at(READ_BINS), at(KINDS),
-                                  at(NUMBERS)) == 0 &&
-               read[8] == 7;
+        return lepsarvu_read_file(at(FILE_PART), number_at(SIZE), at(READ), NODES, at(READ_SETTINGS),
+                                  at(READ_NOTE)) == 0 &&
+               read[8] == 7 && same(at(READ_SETTINGS), &PIECE_SETTINGS, sizeof PIECE_SETTINGS);
     case 9:
-        return lepsarvu_rebuilding(shape[0], shape[1], shape[2], shape[3], at(READ_BINS), at(READ), NODES, at(SHOWN),
-                                   PIXELS, at(WORK), NODES) == 0;
+        return lepsarvu_rebuilding(at(READ_SETTINGS), at(READ), NODES, at(SHOWN), PIXELS, at(WORK), NODES) == 0;
     default:
         return shown[4] == 94 && shown[0] == 0;
     }
@@ -129,13 +140,13 @@ static int closed_step(int which)
     const uint8_t *shown = at(SHOWN);
     switch (which) {
     case 11:
-        return lepsarvu_closed_loop_bounds(3, 3, 1, 4, at(BINS), at(BOUNDS)) == 0 && bounds[0] == 5 && bounds[1] == 2;
+        return lepsarvu_closed_loop_bounds(at(SETTINGS), at(BOUNDS)) == 0 && bounds[0] == 5 && bounds[1] == 2;
     case 12:
-        return lepsarvu_closed_loop_coding(3, 3, 1, 4, at(BINS), at(PICTURE), PIXELS, at(LEVELS), NODES, at(WORK),
+        return lepsarvu_closed_loop_coding(at(SETTINGS), at(PICTURE), PIXELS, at(LEVELS), NODES, at(WORK),
                                            NODES) == 0 &&
                levels[8] == 8 && work[8] == 104;
     default:
-        return lepsarvu_rebuilding(3, 3, 1, 4, at(BINS), at(LEVELS), NODES, at(SHOWN), PIXELS, at(WORK), NODES) == 0 &&
+        return lepsarvu_rebuilding(at(SETTINGS), at(LEVELS), NODES, at(SHOWN), PIXELS, at(WORK), NODES) == 0 &&
                shown[4] == 104 && shown[0] == 4;
     }
 }
@@ -144,10 +155,8 @@ static int closed_step(int which)
 static int is_piece(const uint8_t *file)
 {
     static const char HEADER[] = "P5\n3 3\n255\n";
-    int same = 1;
-    for (size_t byte = 0; byte < PGM_BYTES; byte++)
-        same &= file[byte] == (byte < sizeof HEADER - 1 ? (uint8_t)HEADER[byte] : PIECE[byte - (sizeof HEADER - 1)]);
-    return same;
+    size_t bytes = sizeof HEADER - 1;
+    return bytes + PIXELS == PGM_BYTES && same(file, HEADER, bytes) && same(file + bytes, PIECE, PIXELS);
 }
 
 /* The same of the steps with a PGM file, which show piece A itself. */

@@ -4,7 +4,7 @@
 #include "job.h"
 
 /* The calls that need settings and nothing else. */
-static void settings_case(struct seeded *draw, struct settings s, each_job *each)
+static void settings_case(struct seeded *draw, lepsarvu_settings s, each_job *each)
 {
     provide_settings(draw, s);
     each(DEEPEST_DEPTH);
@@ -49,15 +49,14 @@ static void read_pgm_case(struct seeded *draw, each_job *each)
     }
 }
 
-void lawful_case(struct seeded *draw, struct settings s, each_job *each)
+void lawful_case(struct seeded *draw, lepsarvu_settings s, each_job *each)
 {
     settings_case(draw, s, each);
     provide(draw, PICTURE, pixels_of(&s));
     lengthen(LEVELS, nodes_of(&s));
     lengthen(WORK, nodes_of(&s));
     provide(draw, FILE_PART, LEPSARVU_MOST_FILE_BYTES);
-    job.drier = (struct reading){1, 0x40D00000};
-    job.press = (struct reading){2, 255};
+    provide_note((lepsarvu_note){{LEPSARVU_PERCENTAGE, 0x40D00000}, {LEPSARVU_FAULT, 255}});
     draw_picture(draw, &s, job.held[PICTURE], pixels_of(&s));
     code_case(draw, each);
     each(REBUILDING);
@@ -72,12 +71,12 @@ void lawful_case(struct seeded *draw, struct settings s, each_job *each)
 }
 
 /* A file buffer's length: the file's, one that may be wrong, a small one or the largest. */
-static size_t draw_file_length(struct seeded *draw, const struct settings *s)
+static size_t draw_file_length(struct seeded *draw, const lepsarvu_settings *s)
 {
     size_t whole = 0;
     if (once_in(draw, 8))
         return below(draw, 60);
-    if (plain_file.file_size(SETTINGS(*s, s->bins), &whole) != 0 || once_in(draw, 3))
+    if (plain_file.file_size(s, &whole) != 0 || once_in(draw, 3))
         return LEPSARVU_MOST_FILE_BYTES;
     return draw_length(draw, whole);
 }
@@ -97,16 +96,15 @@ static void drawn_pgm(struct seeded *draw, uint32_t most_side, each_job *each)
 
 void drawn_case(struct seeded *draw, uint32_t most_side, each_job *each)
 {
-    struct settings s = draw_settings(draw, most_side);
+    lepsarvu_settings s = draw_settings(draw, most_side);
     size_t nodes = nodes_of(&s);
     settings_case(draw, s, each);
     provide(draw, PICTURE, draw_length(draw, pixels_of(&s)));
     lengthen(LEVELS, draw_length(draw, nodes));
     lengthen(WORK, draw_length(draw, nodes) + below(draw, 3));
     provide(draw, FILE_PART, draw_file_length(draw, &s));
-    job.drier = draw_reading(draw);
-    job.press = draw_reading(draw);
-    draw_picture(draw, &s, job.held[PICTURE], elements(PICTURE));
+    provide_note(draw_note(draw));
+    draw_pixels(draw, &s, job.held[PICTURE], elements(PICTURE));
     code_case(draw, each);
     if (job.answer != 0 || once_in(draw, 2))
         draw_levels(draw, &s, (int16_t *)(void *)job.held[LEVELS], elements(LEVELS));

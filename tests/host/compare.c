@@ -7,7 +7,7 @@
 enum { SMALL_CASES = 1000000, LARGE_CASES = 6000, SMALL_SIDE = 9, LARGE_SIDE = 129, ALL_SIDES = 140 };
 
 /* All functions but the readers. */
-static void compare_calls(struct run *run, const struct settings *s)
+static void compare_calls(struct run *run, const lepsarvu_settings *s)
 {
     enum manner last = once_in(&run->draw, 2) ? OPEN_LOOP : CLOSED_LOOP; /* what it coded is rebuilt and written */
     run->tally.number++;
@@ -22,7 +22,7 @@ static void compare_calls(struct run *run, const struct settings *s)
 
 static void one_case(struct run *run)
 {
-    struct settings s = draw_settings(&run->draw, run->most_side);
+    lepsarvu_settings s = draw_settings(&run->draw, run->most_side);
     compare_calls(run, &s);
     compare_reading(run);
     compare_reading_pgm(run);
@@ -45,14 +45,17 @@ static void all_sizes(struct run *run)
         }
 }
 
-/* A shape with lawful bins, so that only the shape may be refused. */
+/* A shape with lawful bins, so that only the shape may be refused; every pair of black and white of the list. */
 static void one_shape(struct run *run, uint16_t columns, uint16_t rows, uint16_t depth, uint16_t kernel)
 {
-    struct settings s = {columns, rows, depth, kernel, {0}};
-    for (int slot = 0; slot < LEPSARVU_SLOTS && slot <= depth; slot++)
-        s.bins[slot] = 1;
-    compare_calls(run, &s);
-    compare_reading_shape(run, &s);
+    static const uint16_t GREYS[][2] = {{0, 255}, {16, 235}, {235, 235}, {16, 256}};
+    for (size_t which = 0; which < sizeof GREYS / sizeof *GREYS; which++) {
+        lepsarvu_settings s = {columns, rows, depth, kernel, GREYS[which][0], GREYS[which][1], {0}};
+        for (int slot = 0; slot < LEPSARVU_SLOTS && slot <= depth; slot++)
+            s.bins[slot] = 1;
+        compare_calls(run, &s);
+        compare_reading_shape(run, &s);
+    }
 }
 
 /* All functions on shapes that break every set of the shape's rules, and none. */

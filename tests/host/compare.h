@@ -26,14 +26,14 @@ struct pgm_picture {
 };
 
 void compare_deepest(struct run *run, uint16_t columns, uint16_t rows);
-void compare_settings(struct run *run, const struct settings *s);
-void compare_coding(struct run *run, const struct settings *s, enum manner manner);
-void compare_rebuilding(struct run *run, const struct settings *s);
-void compare_writing(struct run *run, const struct settings *s);
+void compare_settings(struct run *run, const lepsarvu_settings *s);
+void compare_coding(struct run *run, const lepsarvu_settings *s, enum manner manner);
+void compare_rebuilding(struct run *run, const lepsarvu_settings *s);
+void compare_writing(struct run *run, const lepsarvu_settings *s);
 void compare_reading(struct run *run);
-void compare_reading_shape(struct run *run, const struct settings *s);
+void compare_reading_shape(struct run *run, const lepsarvu_settings *s);
 
-void compare_writing_pgm(struct run *run, const struct settings *s);
+void compare_writing_pgm(struct run *run, const lepsarvu_settings *s);
 void compare_reading_pgm(struct run *run);
 
 /* One call of a function of PGM files; the answer is the library's. What was written is read again; what was read is
@@ -50,9 +50,9 @@ void every_pgm(struct run *run);
 void every_set_pgm(struct run *run);
 
 /* Whether the library files what closed-loop coding left, and rebuilds from the file the values that the coder left. */
-int files_and_rebuilds(struct run *run, const struct settings *s, const int16_t *coded, const int32_t *values);
+int files_and_rebuilds(struct run *run, const lepsarvu_settings *s, const int16_t *coded, const int32_t *values);
 
 /* A level buffer of so many indices between guards: coded ones if there are as many, or drawn ones. */
-const int16_t *lend_levels(struct run *run, const struct settings *s, struct lent *levels, size_t length);
+const int16_t *lend_levels(struct run *run, const lepsarvu_settings *s, struct lent *levels, size_t length);
 
 #endif

@@ -99,7 +99,7 @@ uint16_t compare_write_pgm(struct run *run, uint16_t columns, uint16_t rows, con
 }
 
 /* A size's file, if it is lawful, with some more bytes now and then, or any other length. */
-static size_t draw_bytes(struct run *run, const struct settings *s)
+static size_t draw_bytes(struct run *run, const lepsarvu_settings *s)
 {
     size_t whole;
     if (plain_pgm.pgm_size(s->columns, s->rows, &whole) != 0)
@@ -107,11 +107,14 @@ static size_t draw_bytes(struct run *run, const struct settings *s)
     return draw_length(&run->draw, whole) + (once_in(&run->draw, 3) ? below(&run->draw, 9) : 0);
 }
 
-void compare_writing_pgm(struct run *run, const struct settings *s)
+void compare_writing_pgm(struct run *run, const lepsarvu_settings *s)
 {
     static uint8_t drawn[MOST_DRAWN_PIXELS];
+    lepsarvu_settings any_greys = *s;
     size_t pixels = draw_length(&run->draw, pixels_of(s));
-    draw_picture(&run->draw, s, drawn, pixels);
+    any_greys.black = 0;
+    any_greys.white = 255;
+    draw_picture(&run->draw, &any_greys, drawn, pixels);
     compare_pgm_size(run, s->columns, s->rows);
     compare_write_pgm(run, s->columns, s->rows, drawn, pixels, draw_bytes(run, s));
 }

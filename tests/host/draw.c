@@ -1,6 +1,8 @@
 /* Settings, lengths, pictures, level buffers and readings: see draw.h. */
 #include "draw.h"
 
+enum { WHITEST = 255 };
+
 static uint16_t draw_bin(struct seeded *draw)
 {
     static const uint16_t EDGES[] = {1, 2, 3, 254, 255};
@@ -14,9 +16,20 @@ static uint16_t draw_bin(struct seeded *draw)
     }
 }
 
-struct settings draw_lawful(struct seeded *draw, uint32_t most_side)
+void draw_greys(struct seeded *draw, lepsarvu_settings *s)
 {
-    struct settings s = {0, 0, 0, 0, {0}};
+    static const uint16_t EDGES[][2] = {{0, 1}, {254, 255}, {0, 254}, {1, 255}, {127, 128}};
+    uint16_t black = (uint16_t)below(draw, WHITEST), white = (uint16_t)(black + 1 + below(draw, WHITEST - black));
+    const uint16_t greys[8][2] = {
+        {0, WHITEST}, {0, WHITEST}, {0, WHITEST}, {16, 235}, {16, 235}, {16, 235}, {black, white}, {black, white}};
+    const uint16_t *pair = once_in(draw, 12) ? EDGES[below(draw, 5)] : greys[below(draw, 8)];
+    s->black = pair[0];
+    s->white = pair[1];
+}
+
+lepsarvu_settings draw_lawful(struct seeded *draw, uint32_t most_side)
+{
+    lepsarvu_settings s = {0, 0, 0, 0, 0, 0, {0}};
     uint32_t deepest = 0;
     while (deepest < 6 && (2u << deepest) + 1 <= most_side)
         deepest++;
@@ -27,27 +40,40 @@ struct settings draw_lawful(struct seeded *draw, uint32_t most_side)
     s.kernel = (uint16_t)(3 + below(draw, 4));
     for (int slot = 0; slot <= s.depth; slot++)
         s.bins[slot] = draw_bin(draw);
+    draw_greys(draw, &s);
     return s;
 }
 
-struct settings draw_for_size(struct seeded *draw, uint16_t columns, uint16_t rows, uint32_t most_bin)
+lepsarvu_settings draw_for_size(struct seeded *draw, uint16_t columns, uint16_t rows, uint32_t most_bin)
 {
-    struct settings s = {columns, rows, 0, 0, {0}};
+    lepsarvu_settings s = {columns, rows, 0, 0, 0, 0, {0}};
     plain_pyramid.deepest_depth(columns, rows, &s.depth);
     s.depth = (uint16_t)below(draw, s.depth + 1u);
     s.kernel = (uint16_t)(3 + below(draw, 4));
     for (int slot = 0; slot <= s.depth; slot++)
         s.bins[slot] = (uint16_t)(1 + (draw_bin(draw) - 1) % most_bin);
+    draw_greys(draw, &s);
     return s;
 }
 
-void spoil(struct seeded *draw, struct settings *s)
+/* Black and white that are equal or stand the wrong way round, a white above 255, and some that are lawful. */
+static void spoil_greys(struct seeded *draw, lepsarvu_settings *s)
+{
+    static const uint16_t PAIRS[][2] = {{0, 0},   {255, 255},     {16, 16},   {235, 16},  {255, 0},   {0, 256},
+                                        {1, 0},   {254, 256},     {255, 256}, {256, 257}, {16, 511},  {0, 65535},
+                                        {256, 255}, {65534, 65535}, {65535, 255}, {65535, 0}, {0, 255}, {254, 255}};
+    uint32_t which = below(draw, 20);
+    s->black = which < 18 ? PAIRS[which][0] : s->white;
+    s->white = which < 18 ? PAIRS[which][1] : s->white;
+}
+
+void spoil(struct seeded *draw, lepsarvu_settings *s)
 {
     static const uint16_t SIDES[] = {0, 1, 2, 3, 4, 6, 10, 128, 129, 130, 131, 257, 65535};
     static const uint16_t DEPTHS[] = {0, 1, 2, 3, 6, 7, 8, 16, 32, 64, 65535};
     static const uint16_t KERNELS[] = {0, 1, 2, 7, 8, 65535};
     static const uint16_t BINS[] = {0, 1, 255, 256, 257, 511, 65535};
-    switch (below(draw, 5)) {
+    switch (below(draw, 6)) {
     case 0:
         s->columns = SIDES[below(draw, 13)];
         break;
@@ -60,36 +86,37 @@ void spoil(struct seeded *draw, struct settings *s)
     case 3:
         s->kernel = KERNELS[below(draw, 6)];
         break;
+    case 4:
+        spoil_greys(draw, s);
+        break;
     default:
         s->bins[below(draw, LEPSARVU_SLOTS)] = BINS[below(draw, 7)];
     }
 }
 
-struct settings draw_settings(struct seeded *draw, uint32_t most_side)
+lepsarvu_settings draw_settings(struct seeded *draw, uint32_t most_side)
 {
-    struct settings s = draw_lawful(draw, most_side);
+    lepsarvu_settings s = draw_lawful(draw, most_side);
     if (once_in(draw, 5))
         for (uint32_t times = 1 + below(draw, 3); times > 0; times--)
             spoil(draw, &s);
     return s;
 }
 
-int is_lawful(const struct settings *s)
+int is_lawful(const lepsarvu_settings *s)
 {
-    return plain_settings_refusal(s->columns, s->rows, s->depth, s->kernel, s->bins) == 0;
+    return plain_settings_refusal(s) == 0;
 }
 
-size_t pixels_of(const struct settings *s)
+size_t pixels_of(const lepsarvu_settings *s)
 {
     size_t pixels = (size_t)s->columns * s->rows;
     return pixels <= LEPSARVU_MOST_PIXELS ? pixels : 7;
 }
 
-size_t nodes_of(const struct settings *s)
+size_t nodes_of(const lepsarvu_settings *s)
 {
-    if (plain_shape_refusal(s->columns, s->rows, s->depth, 3) != 0)
-        return pixels_of(s);
-    return (size_t)plain_total(s->columns, s->rows, s->depth);
+    return plain_size_refusal(s) != 0 ? pixels_of(s) : (size_t)plain_total(s);
 }
 
 size_t draw_length(struct seeded *draw, size_t right)
@@ -108,9 +135,10 @@ size_t draw_length(struct seeded *draw, size_t right)
     }
 }
 
-void draw_picture(struct seeded *draw, const struct settings *s, uint8_t *picture, size_t length)
+void draw_picture(struct seeded *draw, const lepsarvu_settings *s, uint8_t *picture, size_t length)
 {
     uint32_t kind = below(draw, 8), base = below(draw, 256), step = below(draw, 64);
+    uint32_t lowest = plain_greys_ok(s) ? s->black : 0, highest = plain_greys_ok(s) ? s->white : WHITEST;
     size_t width = s->columns > 0 ? s->columns : 1, one = below(draw, (uint32_t)length + 1);
     for (size_t at = 0; at < length; at++) {
         size_t row = at / width, column = at % width;
@@ -122,8 +150,20 @@ void draw_picture(struct seeded *draw, const struct settings *s, uint8_t *pictur
                              (uint32_t)(row * step + column * (base % 32)),
                              base + below(draw, 4),
                              column % 2 == (base & 1) ? 255 : base / 8};
-        picture[at] = (uint8_t)(value[kind] & 255);
+        picture[at] = (uint8_t)(lowest + (value[kind] & 255) * (highest - lowest) / WHITEST);
     }
+}
+
+void draw_pixels(struct seeded *draw, const lepsarvu_settings *s, uint8_t *picture, size_t length)
+{
+    draw_picture(draw, s, picture, length);
+    if (length == 0 || !once_in(draw, 5))
+        return;
+    const size_t place[3] = {0, length - 1, below(draw, (uint32_t)length)};
+    int32_t by = once_in(draw, 4) ? 1 + (int32_t)below(draw, 255) : 1;
+    int32_t outside = once_in(draw, 2) ? s->black - by : s->white + by;
+    if (outside >= 0 && outside <= WHITEST)
+        picture[place[below(draw, 3)]] = (uint8_t)outside;
 }
 
 /* One index: the most that the bin allows is `most`. */
@@ -143,18 +183,18 @@ static int32_t draw_index(struct seeded *draw, uint32_t kind, int32_t most)
     }
 }
 
-void draw_levels(struct seeded *draw, const struct settings *s, int16_t *levels, size_t length)
+void draw_levels(struct seeded *draw, const lepsarvu_settings *s, int16_t *levels, size_t length)
 {
     int lawful = is_lawful(s);
     uint32_t kind = lawful ? below(draw, 16) % 5 : 4;
     if (kind == 4 && lawful && once_in(draw, 2))
         kind = 0;
     int64_t level = lawful ? s->depth : 0;
-    int64_t left = lawful ? plain_side(s->columns, level) * plain_side(s->rows, level) : 0;
+    int64_t left = lawful ? plain_nodes(s, level) : 0;
     for (size_t at = 0; at < length; at++, left--) {
         if (lawful && left == 0 && level > 0) {
             level--;
-            left = plain_side(s->columns, level) * plain_side(s->rows, level);
+            left = plain_nodes(s, level);
         }
         levels[at] = (int16_t)draw_index(draw, kind, lawful ? MOST_VALUE / s->bins[level] : 0);
     }
@@ -162,7 +202,24 @@ void draw_levels(struct seeded *draw, const struct settings *s, int16_t *levels,
         levels[below(draw, (uint32_t)length)] = (int16_t)draw_index(draw, 4, 0);
 }
 
-struct reading draw_reading(struct seeded *draw)
+/* A lawful number of a kind above 2: one of a byte, one whose lowest byte is a lawful kind, or any. */
+static lepsarvu_reading draw_other_kind(struct seeded *draw)
+{
+    lepsarvu_reading it = draw_lawful_reading(draw);
+    switch (below(draw, 3)) {
+    case 0:
+        it.kind = 3 + below(draw, 253);
+        break;
+    case 1:
+        it.kind |= 1u << (8 + below(draw, 24));
+        break;
+    default:
+        it.kind = (uint32_t)next_number(draw) | 4;
+    }
+    return it;
+}
+
+lepsarvu_reading draw_reading(struct seeded *draw)
 {
     static const uint32_t PERCENTAGES[] = {0,          1,          0x40D00000, 0x42C80000, 0x42C80001, 0x80000000,
                                            0x7F800000, 0x7FC00000, 0xFFFFFFFF, 0x42C7FFFF, 0x00800000, 0xC0D00000};
@@ -170,19 +227,27 @@ struct reading draw_reading(struct seeded *draw)
     switch (below(draw, 12)) {
     case 0:
     case 1:
-        return (struct reading){0, 0};
+        return (lepsarvu_reading){0, 0};
     case 2:
-        return (struct reading){0, once_in(draw, 8) ? 1u << below(draw, 32) : 0};
+        return (lepsarvu_reading){0, once_in(draw, 8) ? 1u << below(draw, 32) : 0};
     case 3:
-        return (struct reading){1, once_in(draw, 4) ? (uint32_t)next_number(draw) : below(draw, 0x42C80001)};
+        return (lepsarvu_reading){1, once_in(draw, 4) ? (uint32_t)next_number(draw) : below(draw, 0x42C80001)};
     case 4:
     case 5:
-        return (struct reading){1, PERCENTAGES[once_in(draw, 3) ? below(draw, 12) : below(draw, 4)]};
+        return (lepsarvu_reading){1, PERCENTAGES[once_in(draw, 3) ? below(draw, 12) : below(draw, 4)]};
     case 6:
-        return (struct reading){2, CODES[once_in(draw, 3) ? below(draw, 6) : 1 + below(draw, 2)]};
+        return (lepsarvu_reading){2, CODES[once_in(draw, 3) ? below(draw, 6) : 1 + below(draw, 2)]};
     case 7:
-        return (struct reading){(uint8_t)(once_in(draw, 3) ? below(draw, 256) : 2), 1 + below(draw, 255)};
+        return once_in(draw, 3) ? draw_other_kind(draw) : (lepsarvu_reading){2, 1 + below(draw, 255)};
     default:
-        return (struct reading){2, 1 + below(draw, 255)};
+        return (lepsarvu_reading){2, 1 + below(draw, 255)};
     }
+}
+
+lepsarvu_note draw_note(struct seeded *draw)
+{
+    lepsarvu_note it;
+    it.before_drier = draw_reading(draw);
+    it.at_press = draw_reading(draw);
+    return it;
 }

@@ -3,39 +3,45 @@
 
 #include "draw.h"
 
-enum { SHAPE_BYTES = 10 };
+enum { SHORT_SHAPE = 4, LONG_SHAPE = 6, FIRST_BYTES = 48 };
 
-struct reading draw_lawful_reading(struct seeded *draw)
+lepsarvu_reading draw_lawful_reading(struct seeded *draw)
 {
     switch (below(draw, 3)) {
     case 0:
-        return (struct reading){0, 0};
+        return (lepsarvu_reading){0, 0};
     case 1:
-        return (struct reading){1, below(draw, 0x42C80001)};
+        return (lepsarvu_reading){1, below(draw, 0x42C80001)};
     default:
-        return (struct reading){2, 1 + below(draw, 255)};
+        return (lepsarvu_reading){2, 1 + below(draw, 255)};
     }
+}
+
+lepsarvu_note draw_lawful_note(struct seeded *draw)
+{
+    lepsarvu_note it;
+    it.before_drier = draw_lawful_reading(draw);
+    it.at_press = draw_lawful_reading(draw);
+    return it;
 }
 
 static size_t draw_whole(struct seeded *draw, uint32_t most_side, uint8_t *file)
 {
     static int16_t levels[LEPSARVU_MOST_NODES];
-    struct settings s = draw_lawful(draw, most_side);
-    struct reading drier, press;
+    lepsarvu_settings s = draw_lawful(draw, most_side);
+    lepsarvu_note note;
     size_t nodes = nodes_of(&s), size = 0;
     do {
-        drier = draw_lawful_reading(draw);
-        press = draw_lawful_reading(draw);
+        note = draw_lawful_note(draw);
         draw_levels(draw, &s, levels, nodes);
-    } while (plain_file.write_file(SETTINGS(s, s.bins), drier.kind, drier.number, press.kind, press.number, levels,
-                                   nodes, file, LEPSARVU_MOST_FILE_BYTES, &size) != 0);
+    } while (plain_file.write_file(&s, &note, levels, nodes, file, LEPSARVU_MOST_FILE_BYTES, &size) != 0);
     return size;
 }
 
 /* A place of the file, of its first sections as often as of all. */
 static size_t draw_place(struct seeded *draw, size_t length)
 {
-    uint32_t limit = length > 44 && once_in(draw, 2) ? 44 : (uint32_t)length;
+    uint32_t limit = length > FIRST_BYTES && once_in(draw, 2) ? FIRST_BYTES : (uint32_t)length;
     return below(draw, limit);
 }
 
@@ -104,23 +110,34 @@ size_t draw_file(struct seeded *draw, uint32_t most_side, uint8_t file[MOST_DRAW
     return draw_damage(draw, file, draw_whole(draw, most_side, file));
 }
 
-size_t draw_file_of_shape(struct seeded *draw, uint32_t most_side, const struct settings *s,
+/* A shape section with these settings' items; answers its length. */
+static size_t put_shape(uint8_t *to, const lepsarvu_settings *s, uint16_t count)
+{
+    const uint16_t number[1 + LONG_SHAPE] = {count, s->columns, s->rows, s->depth, s->kernel, s->black, s->white};
+    for (int at = 0; at <= count; at++) {
+        to[2 * at] = (uint8_t)(number[at] & 255);
+        to[2 * at + 1] = (uint8_t)(number[at] >> 8);
+    }
+    return 2 + 2 * (size_t)count;
+}
+
+size_t draw_file_of_shape(struct seeded *draw, uint32_t most_side, const lepsarvu_settings *s,
                           uint8_t file[MOST_DRAWN_FILE])
 {
-    const uint16_t item[4] = {s->columns, s->rows, s->depth, s->kernel};
-    size_t length = draw_file(draw, most_side, file);
-    for (int at = 0; at < 4; at++) {
-        file[2 + 2 * at] = (uint8_t)(item[at] & 255);
-        file[3 + 2 * at] = (uint8_t)(item[at] >> 8);
-    }
-    return length > SHAPE_BYTES && once_in(draw, 4) ? SHAPE_BYTES : length;
+    static uint8_t other[MOST_DRAWN_FILE];
+    int is_short = s->black == 0 && s->white == 255 && !once_in(draw, 4);
+    size_t length = draw_file(draw, most_side, other), shape = put_shape(file, s, is_short ? SHORT_SHAPE : LONG_SHAPE);
+    size_t others = length > 0 && other[0] == LONG_SHAPE ? 2 + 2 * LONG_SHAPE : 2 + 2 * SHORT_SHAPE;
+    if (length <= others || once_in(draw, 4))
+        return shape;
+    memcpy(file + shape, other + others, length - others);
+    return shape + length - others;
 }
 
 size_t shape_nodes(const uint8_t *file, size_t length)
 {
-    uint16_t item[4] = {0, 0, 0, 0};
-    for (int at = 0; length >= SHAPE_BYTES && at < 4; at++)
+    uint16_t item[SHORT_SHAPE] = {0, 0, 0, 0};
+    for (int at = 0; length >= 2 + 2 * SHORT_SHAPE && at < SHORT_SHAPE; at++)
         item[at] = (uint16_t)(file[2 + 2 * at] | file[3 + 2 * at] << 8);
-    struct settings s = {item[0], item[1], item[2], item[3], {0}};
-    return nodes_of(&s);
+    return nodes_of(&(lepsarvu_settings){item[0], item[1], item[2], item[3], 0, 0, {0}});
 }

@@ -27,7 +27,7 @@ static char document[MOST_DOCUMENT + 1];
 struct seeded draw = {1983};
 struct tally tally;
 
-static void demand(const struct settings *s, const char *what, int passed)
+static void demand(const lepsarvu_settings *s, const char *what, int passed)
 {
     if (!passed && tally.failed < SHOWN_FAILURES)
         fprintf(stderr, "case %" PRIu64 ": %u by %u, depth %u, kernel %u: %s\n", tally.number, s->columns, s->rows,
@@ -46,7 +46,7 @@ static void find_largest(const int32_t *averages, int64_t largest[LEPSARVU_SLOTS
 {
     const int32_t *rebuilt = (const void *)job.held[WORK];
     for (int level = job.s.depth; level >= 0; level--)
-        for (int64_t nodes = plain_side(job.s.columns, level) * plain_side(job.s.rows, level); nodes > 0; nodes--) {
+        for (int64_t nodes = plain_nodes(&job.s, level); nodes > 0; nodes--) {
             int64_t error = llabs((int64_t)*rebuilt++ - *averages++);
             largest[level] = error > largest[level] ? error : largest[level];
         }
@@ -73,7 +73,7 @@ static struct errors measured(enum manner manner, const uint8_t *picture)
     return it;
 }
 
-static void compare(const struct settings *s, const uint8_t *picture, struct errors found[MANNERS])
+static void compare(const lepsarvu_settings *s, const uint8_t *picture, struct errors found[MANNERS])
 {
     provide_settings(&draw, *s);
     found[OPEN_LOOP] = measured(OPEN_LOOP, picture);
@@ -100,7 +100,7 @@ static void put_in_table(uint16_t kernel, const struct errors found[MANNERS])
 static void look_at_case(void)
 {
     struct errors found[MANNERS];
-    struct settings own = take_settings(), even = {own.columns, own.rows, 0, 0, {0}};
+    lepsarvu_settings own = take_settings(), even = {own.columns, own.rows, 0, 0, own.black, own.white, {0}};
     const uint8_t *picture = take(pixels_of(&own));
     take(8 * nodes_of(&own) + pixels_of(&own) + 2 * (own.depth + 1u)); /* what the reference made of it */
     plain_pyramid.deepest_depth(own.columns, own.rows, &even.depth);

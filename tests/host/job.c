@@ -7,16 +7,25 @@ struct job job = {.pyramid = &library_pyramid, .file = &library_file, .pgm = &li
 
 /* Bytes of one element. */
 static const size_t ELEMENT[THINGS] = {
-    [BINS] = sizeof(uint16_t),   [PICTURE] = 1,           [LEVELS] = sizeof(int16_t),    [WORK] = sizeof(int32_t),
-    [FILE_PART] = 1,             [NUMBER] = sizeof(uint16_t), [SIZE] = sizeof(size_t),   [BOUNDS] = sizeof(uint16_t),
-    [SHAPE] = sizeof(uint16_t),  [READ_BINS] = sizeof(uint16_t), [KINDS] = 1,            [NUMBERS] = sizeof(uint32_t),
-    [COLUMNS] = sizeof(uint16_t), [ROWS] = sizeof(uint16_t),
+    [SETTINGS] = sizeof(lepsarvu_settings),
+    [NOTE] = sizeof(lepsarvu_note),
+    [PICTURE] = 1,
+    [LEVELS] = sizeof(int16_t),
+    [WORK] = sizeof(int32_t),
+    [FILE_PART] = 1,
+    [NUMBER] = sizeof(uint16_t),
+    [SIZE] = sizeof(size_t),
+    [BOUNDS] = sizeof(uint16_t),
+    [READ_SETTINGS] = sizeof(lepsarvu_settings),
+    [READ_NOTE] = sizeof(lepsarvu_note),
+    [COLUMNS] = sizeof(uint16_t),
+    [ROWS] = sizeof(uint16_t),
 };
 
 /* Elements of what always has the same length. */
 static const size_t ALWAYS[THINGS] = {
-    [BINS] = LEPSARVU_SLOTS, [NUMBER] = 1,  [SIZE] = 1,    [BOUNDS] = LEPSARVU_SLOTS, [SHAPE] = 4,
-    [READ_BINS] = LEPSARVU_SLOTS, [KINDS] = 2, [NUMBERS] = 2, [COLUMNS] = 1, [ROWS] = 1,
+    [SETTINGS] = 1,      [NOTE] = 1,      [NUMBER] = 1,  [SIZE] = 1, [BOUNDS] = LEPSARVU_SLOTS,
+    [READ_SETTINGS] = 1, [READ_NOTE] = 1, [COLUMNS] = 1, [ROWS] = 1,
 };
 
 size_t elements(enum thing thing)
@@ -41,19 +50,24 @@ void provide_copy(enum thing thing, const void *contents, size_t many)
     memcpy(job.held[thing], contents, job.bytes[thing]);
 }
 
-void provide_settings(struct seeded *draw, struct settings s)
+void provide_settings(struct seeded *draw, lepsarvu_settings s)
 {
     job.s = s;
     for (enum thing thing = 0; thing < THINGS; thing++)
         if (ALWAYS[thing] != 0)
             provide(draw, thing, ALWAYS[thing]);
-    provide_copy(BINS, s.bins, LEPSARVU_SLOTS);
+    provide_copy(SETTINGS, &s, 1);
+}
+
+void provide_note(lepsarvu_note note)
+{
+    provide_copy(NOTE, &note, 1);
 }
 
 static void code(enum manner manner)
 {
-    job.answer = coding_in(manner, job.pyramid)(SETTINGS(job.s, job.at[BINS]), job.at[PICTURE], elements(PICTURE),
-                                                job.at[LEVELS], elements(LEVELS), job.at[WORK], elements(WORK));
+    job.answer = coding_in(manner, job.pyramid)(job.at[SETTINGS], job.at[PICTURE], elements(PICTURE), job.at[LEVELS],
+                                                elements(LEVELS), job.at[WORK], elements(WORK));
 }
 
 static void coding(void)
@@ -68,18 +82,18 @@ static void closed_loop_coding(void)
 
 static void rebuilding(void)
 {
-    job.answer = job.pyramid->rebuilding(SETTINGS(job.s, job.at[BINS]), job.at[LEVELS], elements(LEVELS),
-                                         job.at[PICTURE], elements(PICTURE), job.at[WORK], elements(WORK));
+    job.answer = job.pyramid->rebuilding(job.at[SETTINGS], job.at[LEVELS], elements(LEVELS), job.at[PICTURE],
+                                         elements(PICTURE), job.at[WORK], elements(WORK));
 }
 
 static void level_bounds(void)
 {
-    job.answer = job.pyramid->level_bounds(SETTINGS(job.s, job.at[BINS]), job.at[BOUNDS]);
+    job.answer = job.pyramid->level_bounds(job.at[SETTINGS], job.at[BOUNDS]);
 }
 
 static void closed_loop_bounds(void)
 {
-    job.answer = job.pyramid->closed_loop_bounds(SETTINGS(job.s, job.at[BINS]), job.at[BOUNDS]);
+    job.answer = job.pyramid->closed_loop_bounds(job.at[SETTINGS], job.at[BOUNDS]);
 }
 
 static void deepest_depth(void)
@@ -89,31 +103,30 @@ static void deepest_depth(void)
 
 static void total_nodes(void)
 {
-    job.answer = job.pyramid->total_nodes(SETTINGS(job.s, job.at[BINS]), job.at[NUMBER]);
+    job.answer = job.pyramid->total_nodes(job.at[SETTINGS], job.at[NUMBER]);
 }
 
 static void file_size(void)
 {
-    job.answer = job.file->file_size(SETTINGS(job.s, job.at[BINS]), job.at[SIZE]);
+    job.answer = job.file->file_size(job.at[SETTINGS], job.at[SIZE]);
 }
 
 static void write_file(void)
 {
-    job.answer = job.file->write_file(SETTINGS(job.s, job.at[BINS]), job.drier.kind, job.drier.number, job.press.kind,
-                                      job.press.number, job.at[LEVELS], elements(LEVELS), job.at[FILE_PART],
-                                      elements(FILE_PART), job.at[SIZE]);
+    job.answer = job.file->write_file(job.at[SETTINGS], job.at[NOTE], job.at[LEVELS], elements(LEVELS),
+                                      job.at[FILE_PART], elements(FILE_PART), job.at[SIZE]);
 }
 
 static void read_file(void)
 {
     job.answer = job.file->read_file(job.at[FILE_PART], elements(FILE_PART), job.at[LEVELS], elements(LEVELS),
-                                     job.at[SHAPE], job.at[READ_BINS], job.at[KINDS], job.at[NUMBERS]);
+                                     job.at[READ_SETTINGS], job.at[READ_NOTE]);
 }
 
 static void check_file(void)
 {
-    job.answer = job.file->check_file(job.at[FILE_PART], elements(FILE_PART), job.at[SHAPE], job.at[READ_BINS],
-                                      job.at[KINDS], job.at[NUMBERS]);
+    job.answer = job.file->check_file(job.at[FILE_PART], elements(FILE_PART), job.at[READ_SETTINGS],
+                                      job.at[READ_NOTE]);
 }
 
 static void pgm_size(void)
@@ -144,22 +157,20 @@ void (*const JOB_CALLS[FUNCTIONS])(void) = {
     check_file,    pgm_size,           write_pgm,  read_pgm,     check_pgm,
 };
 
-#define NOTE (1 << SHAPE | 1 << READ_BINS | 1 << KINDS | 1 << NUMBERS)
-
 static const struct {
     unsigned reads, writes;
 } LENT[FUNCTIONS] = {
-    [CODING] = {1 << BINS | 1 << PICTURE, 1 << LEVELS | 1 << WORK},
-    [CLOSED_LOOP_CODING] = {1 << BINS | 1 << PICTURE, 1 << LEVELS | 1 << WORK},
-    [REBUILDING] = {1 << BINS | 1 << LEVELS, 1 << PICTURE | 1 << WORK},
-    [LEVEL_BOUNDS] = {1 << BINS, 1 << BOUNDS},
-    [CLOSED_LOOP_BOUNDS] = {1 << BINS, 1 << BOUNDS},
+    [CODING] = {1 << SETTINGS | 1 << PICTURE, 1 << LEVELS | 1 << WORK},
+    [CLOSED_LOOP_CODING] = {1 << SETTINGS | 1 << PICTURE, 1 << LEVELS | 1 << WORK},
+    [REBUILDING] = {1 << SETTINGS | 1 << LEVELS, 1 << PICTURE | 1 << WORK},
+    [LEVEL_BOUNDS] = {1 << SETTINGS, 1 << BOUNDS},
+    [CLOSED_LOOP_BOUNDS] = {1 << SETTINGS, 1 << BOUNDS},
     [DEEPEST_DEPTH] = {0, 1 << NUMBER},
-    [TOTAL_NODES] = {1 << BINS, 1 << NUMBER},
-    [FILE_SIZE] = {1 << BINS, 1 << SIZE},
-    [WRITE_FILE] = {1 << BINS | 1 << LEVELS, 1 << FILE_PART | 1 << SIZE},
-    [READ_FILE] = {1 << FILE_PART, 1 << LEVELS | NOTE},
-    [CHECK_FILE] = {1 << FILE_PART, NOTE},
+    [TOTAL_NODES] = {1 << SETTINGS, 1 << NUMBER},
+    [FILE_SIZE] = {1 << SETTINGS, 1 << SIZE},
+    [WRITE_FILE] = {1 << SETTINGS | 1 << NOTE | 1 << LEVELS, 1 << FILE_PART | 1 << SIZE},
+    [READ_FILE] = {1 << FILE_PART, 1 << LEVELS | 1 << READ_SETTINGS | 1 << READ_NOTE},
+    [CHECK_FILE] = {1 << FILE_PART, 1 << READ_SETTINGS | 1 << READ_NOTE},
     [PGM_SIZE] = {0, 1 << SIZE},
     [WRITE_PGM] = {1 << PICTURE, 1 << FILE_PART | 1 << SIZE},
     [READ_PGM] = {1 << FILE_PART, 1 << PICTURE | 1 << COLUMNS | 1 << ROWS},

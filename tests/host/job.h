@@ -6,10 +6,12 @@
 #include "draw.h"
 #include "tally.h"
 
-/* What the functions are lent: a buffer, a small array or a number each. NUMBER is a depth or a number of nodes,
- * FILE_PART a bale file or a PGM file, COLUMNS and ROWS are those that were read of the latter. */
+/* What the functions are lent: a struct, a buffer, a small array or a number each. NUMBER is a depth or a number of
+ * nodes, FILE_PART a bale file or a PGM file, READ_SETTINGS and READ_NOTE are what was read of the former, COLUMNS and
+ * ROWS of the latter. */
 enum thing {
-    BINS,
+    SETTINGS,
+    NOTE,
     PICTURE,
     LEVELS,
     WORK,
@@ -17,10 +19,8 @@ enum thing {
     NUMBER,
     SIZE,
     BOUNDS,
-    SHAPE,
-    READ_BINS,
-    KINDS,
-    NUMBERS,
+    READ_SETTINGS,
+    READ_NOTE,
     COLUMNS,
     ROWS,
     THINGS
@@ -33,8 +33,7 @@ struct job {
     const struct pyramid_calls *pyramid; /* whose functions are called */
     const struct file_calls *file;
     const struct pgm_calls *pgm;
-    struct settings s;
-    struct reading drier, press;
+    lepsarvu_settings s; /* what SETTINGS holds */
     uint16_t answer;
     size_t bytes[THINGS]; /* of each thing */
     void *at[THINGS];     /* where it lies while it is lent */
@@ -51,8 +50,9 @@ void lengthen(enum thing thing, size_t many);
 void provide(struct seeded *draw, enum thing thing, size_t many);
 void provide_copy(enum thing thing, const void *contents, size_t many);
 
-/* The settings, and all that has always the same length, which holds anything. */
-void provide_settings(struct seeded *draw, struct settings s);
+/* The settings, and all that has always the same length, which holds anything; a note. */
+void provide_settings(struct seeded *draw, lepsarvu_settings s);
+void provide_note(lepsarvu_note note);
 
 /* Makes a function's call on what lies at job.at, and leaves the answer in job.answer. */
 extern void (*const JOB_CALLS[FUNCTIONS])(void);
@@ -72,7 +72,7 @@ typedef void each_job(enum function function);
 
 /* Right lengths: the levels that one of the two codings leaves are rebuilt and written, and the file that was written
  * is read; so is a PGM file of the rebuilt picture. */
-void lawful_case(struct seeded *draw, struct settings s, each_job *each);
+void lawful_case(struct seeded *draw, lepsarvu_settings s, each_job *each);
 
 /* Any settings, lengths, level buffers, readings and files. */
 void drawn_case(struct seeded *draw, uint32_t most_side, each_job *each);

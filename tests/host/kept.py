@@ -21,7 +21,11 @@ HOMES = {
     "pyramid": "test_vectors",
     "closed": "test_vectors",
     "levels": "test_vectors",
+    "pyramid_greys": "test_vectors",
+    "closed_greys": "test_vectors",
+    "levels_greys": "test_vectors",
     "files": "test_files",
+    "files_greys": "test_files",
     "pgm": "test_pgm",
 }
 

@@ -12,9 +12,29 @@ enum { SMALL_LISTS = 100000, LARGE_LISTS = 500, SMALL_SIDE = 17, LARGE_SIDE = 12
 
 struct seeded draw;
 
-struct settings draw_step(const struct list *list)
+/* Black and white of a step: mostly the list's, else wider ones, a little narrower ones, or any, which are drawn
+ * already. The last two may turn the picture down. */
+static void draw_step_greys(const struct list *list, lepsarvu_settings *s)
 {
-    struct settings s = draw_for_size(&draw, list->columns, list->rows, list->most_bin);
+    uint32_t kind = below(&draw, 12), spare = list->white - list->black - 1u, lower = below(&draw, 3);
+    if (kind == 0)
+        return;
+    s->black = list->black;
+    s->white = list->white;
+    if (kind == 1) {
+        s->black = (uint16_t)below(&draw, list->black + 1u);
+        s->white = (uint16_t)(list->white + below(&draw, 256u - list->white));
+    }
+    if (kind == 2 && lower <= spare) {
+        s->black = (uint16_t)(list->black + lower);
+        s->white = (uint16_t)(list->white - below(&draw, (spare - lower < 3 ? spare - lower : 2) + 1));
+    }
+}
+
+lepsarvu_settings draw_step(const struct list *list)
+{
+    lepsarvu_settings s = draw_for_size(&draw, list->columns, list->rows, list->most_bin);
+    draw_step_greys(list, &s);
     if (once_in(&draw, 10)) {
         s.columns = list->rows;
         s.rows = list->columns;
@@ -41,7 +61,15 @@ enum manner draw_manner(void)
     return once_in(&draw, 2) ? CLOSED_LOOP : OPEN_LOOP;
 }
 
-int take_coded(struct coded *it, enum manner manner, const struct settings *s, const uint8_t *picture,
+int pixels_inside(const lepsarvu_settings *s, const uint8_t *picture, size_t pixels)
+{
+    int all = 1;
+    for (size_t at = 0; at < pixels; at++)
+        all &= s->black <= picture[at] && picture[at] <= s->white;
+    return all;
+}
+
+int take_coded(struct coded *it, enum manner manner, const lepsarvu_settings *s, const uint8_t *picture,
                const int32_t *left)
 {
     static int16_t levels[LEPSARVU_MOST_NODES];
@@ -49,25 +77,26 @@ int take_coded(struct coded *it, enum manner manner, const struct settings *s, c
     it->manner = manner;
     it->s = *s;
     memcpy(manner == CLOSED_LOOP ? it->values : it->averages, left, nodes * sizeof *left);
-    return manner == OPEN_LOOP || plain_pyramid.coding(SETTINGS(*s, s->bins), picture, pixels_of(s), levels, nodes,
-                                                       it->averages, nodes) == 0;
+    if (!pixels_inside(s, picture, pixels_of(s)))
+        return 0;
+    return manner == OPEN_LOOP ||
+           plain_pyramid.coding(s, picture, pixels_of(s), levels, nodes, it->averages, nodes) == 0;
 }
 
 int take_bounds(struct list *list, struct coded *it)
 {
-    static struct lent bins, found;
+    static struct lent settings, found;
     uint16_t expected[LEPSARVU_SLOTS];
-    const uint16_t *lent_bins = lend_copy(&bins, it->s.bins, sizeof it->s.bins, &draw);
-    uint16_t answer = bounds_in(it->manner, &library_pyramid)(SETTINGS(it->s, lent_bins),
-                                                              lend_sealed(&found, sizeof expected));
+    const lepsarvu_settings *lent = lend_copy(&settings, &it->s, sizeof it->s, &draw);
+    uint16_t answer = bounds_in(it->manner, &library_pyramid)(lent, lend_sealed(&found, sizeof expected));
     memcpy(it->bounds, start_of(&found), sizeof expected);
-    if (answer != 0 || bounds_in(it->manner, &plain_pyramid)(SETTINGS(it->s, it->s.bins), expected) != 0)
+    if (answer != 0 || bounds_in(it->manner, &plain_pyramid)(&it->s, expected) != 0)
         return 0;
     list->accepted++;
     list->closed += it->manner == CLOSED_LOOP;
     list->sum += it->bounds[0];
     list->most_bound = it->bounds[0] > list->most_bound ? it->bounds[0] : list->most_bound;
-    return kept(&bins) && guards_kept(&found) && memcmp(it->bounds, expected, sizeof expected) == 0;
+    return kept(&settings) && guards_kept(&found) && memcmp(it->bounds, expected, sizeof expected) == 0;
 }
 
 static int64_t largest_error(const int32_t *rebuilt, const int32_t *averages, int64_t nodes)
@@ -80,16 +109,30 @@ static int64_t largest_error(const int32_t *rebuilt, const int32_t *averages, in
     return most;
 }
 
-int rebuilt_right(struct seen *seen, const struct coded *it, const int32_t *rebuilt)
+static int clamped_right(struct seen *seen, const lepsarvu_settings *s, const int32_t *rebuilt, const uint8_t *shown)
+{
+    int right = 1, beyond = 0;
+    for (size_t at = 0; at < pixels_of(s); at++) {
+        int low = rebuilt[at] < s->black, high = rebuilt[at] > s->white;
+        right &= shown[at] == (low ? s->black : high ? s->white : rebuilt[at]);
+        beyond |= (low && s->black != 0) || (high && s->white != 255);
+    }
+    seen->clamped += (uint64_t)beyond;
+    return right;
+}
+
+int rebuilt_right(struct seen *seen, const struct coded *it, const int32_t *rebuilt, const uint8_t *shown)
 {
     int64_t at = 0, most = 0;
     for (int level = it->s.depth; level >= 0; level--) {
-        int64_t nodes = plain_side(it->s.columns, level) * plain_side(it->s.rows, level);
+        int64_t nodes = plain_nodes(&it->s, level);
         most = largest_error(rebuilt + at, it->averages + at, nodes);
         if (most > it->bounds[level])
             return 0;
         at += nodes;
     }
+    if (!clamped_right(seen, &it->s, rebuilt + at - pixels_of(&it->s), shown))
+        return 0;
     if (it->manner == OPEN_LOOP)
         return 1;
     seen->reached += most > 0 && most == it->bounds[0];
@@ -121,8 +164,10 @@ typedef int run_list(struct seen *seen, struct list *list);
 static void run_one(struct seen *seen, run_list *run, uint32_t least_side, uint32_t most_side)
 {
     static const uint32_t MOST_BINS[] = {2, 3, 5, 8, 16, 32, 64, 255};
-    struct settings size = draw_lawful(&draw, most_side);
+    lepsarvu_settings size = draw_lawful(&draw, most_side);
     struct list list = {0};
+    list.black = size.black;
+    list.white = size.white;
     list.columns = least_side > 2 ? (uint16_t)least_side : size.columns;
     list.rows = least_side > 2 ? (uint16_t)least_side : size.rows;
     list.most_bin = MOST_BINS[below(&draw, 8)];
@@ -165,6 +210,9 @@ static void demand_kinds(struct seen *seen, const char *const calls[4])
     demand(seen, "two or more, all closed-loop", seen->all_closed, lists / 20);
     demand(seen, "two or more, of both manners", seen->mixed, lists / 4);
     demand(seen, "closed-loop bounds reached", seen->reached, lists / 4);
+    demand(seen, "turned down: outside black, white", seen->turned_down, lists / 20);
+    demand(seen, "accepted, other black or white", seen->other_greys, lists / 20);
+    demand(seen, "clamped to black or white", seen->clamped, lists / 20);
 }
 
 int main(int words, char **word)

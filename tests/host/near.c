@@ -20,7 +20,7 @@ enum value { REBUILT, SHOWN };
 enum demand { BELOW, REACHED, SHARP };
 
 struct aim {
-    struct settings s;
+    lepsarvu_settings s;
     enum value value;
     int sign; /* of rebuilt less coded */
     int64_t error;
@@ -28,37 +28,44 @@ struct aim {
 };
 
 static const struct aim AIMS[] = {
-    {{3, 3, 1, 6, {1, 255}}, REBUILT, 1, 249, SHARP},
-    {{3, 3, 1, 6, {1, 255}}, REBUILT, -1, 249, SHARP},
-    {{3, 3, 1, 6, {255, 255}}, REBUILT, 1, 376, SHARP},
-    {{3, 3, 1, 6, {255, 255}}, REBUILT, -1, 376, SHARP},
-    {{3, 3, 1, 6, {254, 254}}, REBUILT, -1, 376, SHARP},
-    {{3, 3, 1, 6, {1, 101}}, SHOWN, 1, 98, REACHED},
-    {{3, 3, 1, 6, {1, 101}}, SHOWN, -1, 98, REACHED},
-    {{3, 3, 1, 6, {9, 51}}, SHOWN, 1, 53, REACHED},
-    {{5, 5, 1, 6, {51, 51}}, SHOWN, -1, 74, REACHED},
-    {{3, 3, 1, 6, {1, 31}}, SHOWN, 1, 30, REACHED}, /* 29.4, rounded up */
-    {{3, 3, 1, 6, {1, 11}}, SHOWN, -1, 10, REACHED},
-    {{3, 3, 1, 6, {7, 41}}, SHOWN, -1, 43, REACHED}, /* 39.2, rounded up, and 3 */
-    {{3, 3, 1, 6, {10, 4}}, SHOWN, -1, 9, REACHED},
-    {{3, 3, 1, 6, {1, 2}}, SHOWN, -1, 2, REACHED},
-    {{3, 3, 1, 3, {255, 255}}, REBUILT, 1, 254, SHARP},
-    {{3, 3, 1, 4, {255, 255}}, REBUILT, -1, 254, SHARP},
-    {{3, 3, 1, 5, {255, 255}}, REBUILT, 1, 254, SHARP},
-    {{3, 3, 1, 5, {255, 255}}, REBUILT, -1, 254, SHARP},
-    {{3, 3, 1, 4, {10, 4}}, SHOWN, -1, 7, REACHED},
-    {{5, 5, 2, 5, {31, 31, 31}}, SHOWN, 1, 45, REACHED},
-    {{9, 9, 3, 5, {9, 9, 9, 9}}, SHOWN, -1, 16, REACHED},
-    {{5, 5, 2, 6, {31, 31, 31}}, REBUILT, 1, 80, BELOW},
-    {{5, 5, 2, 6, {255, 255, 255}}, REBUILT, 1, 650, BELOW},
-    {{9, 9, 3, 6, {9, 9, 9, 9}}, REBUILT, -1, 35, BELOW},
+    {{3, 3, 1, 6, 0, 255, {1, 255}}, REBUILT, 1, 249, SHARP},
+    {{3, 3, 1, 6, 0, 255, {1, 255}}, REBUILT, -1, 249, SHARP},
+    {{3, 3, 1, 6, 0, 255, {255, 255}}, REBUILT, 1, 376, SHARP},
+    {{3, 3, 1, 6, 0, 255, {255, 255}}, REBUILT, -1, 376, SHARP},
+    {{3, 3, 1, 6, 0, 255, {254, 254}}, REBUILT, -1, 376, SHARP},
+    {{3, 3, 1, 6, 0, 255, {1, 101}}, SHOWN, 1, 98, REACHED},
+    {{3, 3, 1, 6, 0, 255, {1, 101}}, SHOWN, -1, 98, REACHED},
+    {{3, 3, 1, 6, 0, 255, {9, 51}}, SHOWN, 1, 53, REACHED},
+    {{5, 5, 1, 6, 0, 255, {51, 51}}, SHOWN, -1, 74, REACHED},
+    {{3, 3, 1, 6, 0, 255, {1, 31}}, SHOWN, 1, 30, REACHED}, /* 29.4, rounded up */
+    {{3, 3, 1, 6, 0, 255, {1, 11}}, SHOWN, -1, 10, REACHED},
+    {{3, 3, 1, 6, 0, 255, {7, 41}}, SHOWN, -1, 43, REACHED}, /* 39.2, rounded up, and 3 */
+    {{3, 3, 1, 6, 0, 255, {10, 4}}, SHOWN, -1, 9, REACHED},
+    {{3, 3, 1, 6, 0, 255, {1, 2}}, SHOWN, -1, 2, REACHED},
+    {{3, 3, 1, 3, 0, 255, {255, 255}}, REBUILT, 1, 254, SHARP},
+    {{3, 3, 1, 4, 0, 255, {255, 255}}, REBUILT, -1, 254, SHARP},
+    {{3, 3, 1, 5, 0, 255, {255, 255}}, REBUILT, 1, 254, SHARP},
+    {{3, 3, 1, 5, 0, 255, {255, 255}}, REBUILT, -1, 254, SHARP},
+    {{3, 3, 1, 4, 0, 255, {10, 4}}, SHOWN, -1, 7, REACHED},
+    {{5, 5, 2, 5, 0, 255, {31, 31, 31}}, SHOWN, 1, 45, REACHED},
+    {{9, 9, 3, 5, 0, 255, {9, 9, 9, 9}}, SHOWN, -1, 16, REACHED},
+    {{5, 5, 2, 6, 0, 255, {31, 31, 31}}, REBUILT, 1, 80, BELOW},
+    {{5, 5, 2, 6, 0, 255, {255, 255, 255}}, REBUILT, 1, 650, BELOW},
+    {{9, 9, 3, 6, 0, 255, {9, 9, 9, 9}}, REBUILT, -1, 35, BELOW},
+    {{3, 3, 1, 6, 16, 235, {1, 101}}, SHOWN, 1, 98, REACHED},
+    {{3, 3, 1, 6, 16, 235, {9, 51}}, SHOWN, -1, 53, REACHED},
+    {{3, 3, 1, 6, 16, 235, {1, 255}}, REBUILT, 1, 249, REACHED},
+    {{3, 3, 1, 6, 16, 235, {1, 255}}, REBUILT, -1, 249, REACHED},
+    {{3, 3, 1, 4, 16, 235, {10, 4}}, SHOWN, -1, 7, REACHED},
+    {{5, 5, 2, 5, 16, 235, {31, 31, 31}}, SHOWN, 1, 45, REACHED},
+    {{3, 3, 1, 5, 100, 160, {31, 31}}, SHOWN, 1, 30, REACHED},
 };
 
 static struct seeded draw = {SEED};
 static struct tally tally;
 
 /* The bound of level 0 with a multiplier in hundredths. */
-static int64_t bound_with(const struct settings *s, int64_t hundredths)
+static int64_t bound_with(const lepsarvu_settings *s, int64_t hundredths)
 {
     int64_t bound = 0;
     for (int level = s->depth; level >= 0; level--)
@@ -72,21 +79,30 @@ static int64_t error_of(const struct aim *aim, const uint8_t *picture)
     static uint8_t shown[MOST_PIXELS];
     static int16_t levels[MOST_NODES];
     static int32_t work[MOST_NODES];
-    const struct settings *s = &aim->s;
+    const lepsarvu_settings *s = &aim->s;
     size_t nodes = nodes_of(s), pixels = pixels_of(s);
-    if (plain_pyramid.coding(SETTINGS(*s, s->bins), picture, pixels, levels, nodes, work, nodes) != 0 ||
-        plain_pyramid.rebuilding(SETTINGS(*s, s->bins), levels, nodes, shown, pixels, work, nodes) != 0)
+    if (plain_pyramid.coding(s, picture, pixels, levels, nodes, work, nodes) != 0 ||
+        plain_pyramid.rebuilding(s, levels, nodes, shown, pixels, work, nodes) != 0)
         abort();
     return aim->sign * ((aim->value == SHOWN ? shown[0] : work[nodes - pixels]) - picture[0]);
 }
 
-/* Changes one to three pixels, mostly a little. */
-static void change(uint8_t *picture, size_t pixels)
+/* A picture of noise, from black to white. */
+static void draw_noise(const lepsarvu_settings *s, uint8_t *picture)
 {
+    size_t pixels = pixels_of(s);
+    for (size_t at = 0; at < pixels; at++)
+        picture[at] = (uint8_t)(s->black + below(&draw, s->white - s->black + 1u));
+}
+
+/* Changes one to three pixels, mostly a little. */
+static void change(const lepsarvu_settings *s, uint8_t *picture)
+{
+    uint32_t pixels = (uint32_t)pixels_of(s);
     for (uint32_t times = 1 + below(&draw, 3); times > 0; times--) {
-        uint8_t *pixel = &picture[below(&draw, (uint32_t)pixels)];
+        uint8_t *pixel = &picture[below(&draw, pixels)];
         int by = once_in(&draw, 8) ? (int)below(&draw, 511) - 255 : (int)below(&draw, 17) - 8;
-        *pixel = (uint8_t)(*pixel + by < 0 ? 0 : *pixel + by > WIDEST ? WIDEST : *pixel + by);
+        *pixel = (uint8_t)(*pixel + by < s->black ? s->black : *pixel + by > s->white ? s->white : *pixel + by);
     }
 }
 
@@ -95,12 +111,11 @@ static int64_t climb(const struct aim *aim, uint8_t *picture, int64_t bound)
 {
     uint8_t changed[MOST_PIXELS];
     size_t pixels = pixels_of(&aim->s);
-    for (size_t at = 0; at < pixels; at++)
-        picture[at] = (uint8_t)below(&draw, 256);
+    draw_noise(&aim->s, picture);
     int64_t most = error_of(aim, picture);
     for (int done = 0; done < CHANGES && most < bound; done++) {
         memcpy(changed, picture, pixels);
-        change(changed, pixels);
+        change(&aim->s, changed);
         int64_t error = error_of(aim, changed);
         if (error >= most) {
             most = error;
@@ -126,7 +141,7 @@ static int64_t search(const struct aim *aim, uint8_t *best)
     return most;
 }
 
-static void demand(const struct settings *s, const char *what, int passed)
+static void demand(const lepsarvu_settings *s, const char *what, int passed)
 {
     if (!passed)
         fprintf(stderr, "%u by %u, depth %u, kernel %u, bins %u, %u: %s\n", s->columns, s->rows, s->depth, s->kernel,
@@ -136,7 +151,7 @@ static void demand(const struct settings *s, const char *what, int passed)
 }
 
 /* The library's bound of level 0, and in the job's things what it rebuilds of the picture. */
-static uint16_t rebuild_with_library(enum manner manner, const struct settings *s, const uint8_t *picture)
+static uint16_t rebuild_with_library(enum manner manner, const lepsarvu_settings *s, const uint8_t *picture)
 {
     enum function bounds = manner == CLOSED_LOOP ? CLOSED_LOOP_BOUNDS : LEVEL_BOUNDS;
     enum function coder = manner == CLOSED_LOOP ? CLOSED_LOOP_CODING : CODING;
@@ -168,7 +183,8 @@ static void pursue(const struct aim *aim)
     uint16_t bound = 0;
     int64_t found = search(aim, picture), error = library_error(aim, picture, &bound);
     int64_t hundredths = aim->s.kernel == 6 ? 196 : 100;
-    printf("%u by %u, depth %u, kernel %u, bins", aim->s.columns, aim->s.rows, aim->s.depth, aim->s.kernel);
+    printf("%u by %u, depth %u, kernel %u, pixels of %u to %u, bins", aim->s.columns, aim->s.rows, aim->s.depth,
+           aim->s.kernel, aim->s.black, aim->s.white);
     for (int level = 0; level <= aim->s.depth; level++)
         printf(" %u", aim->s.bins[level]);
     printf(": %s off by %" PRId64 ", bound %u; %d hundredths would give %" PRId64 "\n",
@@ -189,7 +205,7 @@ struct errors {
     int64_t least, most;
 };
 
-static struct errors errors_of(const struct settings *s, const uint8_t *picture, const int32_t *work)
+static struct errors errors_of(const lepsarvu_settings *s, const uint8_t *picture, const int32_t *work)
 {
     size_t pixels = pixels_of(s);
     const int32_t *rebuilt = work + nodes_of(s) - pixels;
@@ -203,21 +219,20 @@ static struct errors errors_of(const struct settings *s, const uint8_t *picture,
 }
 
 /* A picture of noise, and its errors with plain C. */
-static struct errors noise_errors(const struct settings *s, uint8_t *picture)
+static struct errors noise_errors(const lepsarvu_settings *s, uint8_t *picture)
 {
     static int16_t levels[LEPSARVU_MOST_NODES];
     static int32_t work[LEPSARVU_MOST_NODES];
     size_t nodes = nodes_of(s), pixels = pixels_of(s);
-    for (size_t at = 0; at < pixels; at++)
-        picture[at] = (uint8_t)below(&draw, 256);
-    if (plain_pyramid.closed_loop_coding(SETTINGS(*s, s->bins), picture, pixels, levels, nodes, work, nodes) != 0)
+    draw_noise(s, picture);
+    if (plain_pyramid.closed_loop_coding(s, picture, pixels, levels, nodes, work, nodes) != 0)
         abort();
     return errors_of(s, picture, work);
 }
 
 /* Closed-loop an error is at least minus half the bin, rounded down, and at most half of one less than the bin. Noise
  * that reaches one of the two is looked for, and given to the library. Returns that one. */
-static int64_t reach_closed(const struct settings *s, int sign)
+static int64_t reach_closed(const lepsarvu_settings *s, int sign)
 {
     static uint8_t picture[LEPSARVU_MOST_PIXELS];
     int64_t least = -(s->bins[0] / 2), most = (s->bins[0] - 1) / 2;
@@ -235,20 +250,20 @@ static int64_t reach_closed(const struct settings *s, int sign)
 }
 
 /* Every depth, at the smallest size that has it, below levels of the widest bins. */
-static void reach_all_closed(uint16_t kernel, uint16_t bin)
+static void reach_all_closed(uint16_t kernel, uint16_t bin, uint16_t black, uint16_t white)
 {
     struct errors narrowest = {INT64_MIN, INT64_MAX};
     for (uint16_t depth = 0; depth <= 6; depth++) {
         uint16_t side = (uint16_t)((1 << depth) + 1);
-        struct settings s = {side, side, depth, kernel, {bin}};
+        lepsarvu_settings s = {side, side, depth, kernel, black, white, {bin}};
         for (int level = 1; level <= depth; level++)
             s.bins[level] = WIDEST;
         int64_t least = reach_closed(&s, -1), most = reach_closed(&s, 1);
         narrowest.least = least > narrowest.least ? least : narrowest.least;
         narrowest.most = most < narrowest.most ? most : narrowest.most;
     }
-    printf("closed-loop, kernel %u, bin %u below bins of %d: at every depth rebuilt off by %" PRId64 " and by %" PRId64
-           "\n", kernel, bin, WIDEST, narrowest.least, narrowest.most);
+    printf("closed-loop, kernel %u, bin %u below bins of %d, pixels of %u to %u: at every depth rebuilt off by %" PRId64
+           " and by %" PRId64 "\n", kernel, bin, WIDEST, black, white, narrowest.least, narrowest.most);
 }
 
 int main(void)
@@ -257,7 +272,9 @@ int main(void)
     for (size_t at = 0; at < sizeof AIMS / sizeof *AIMS; at++)
         pursue(&AIMS[at]);
     for (uint16_t kernel = 3; kernel <= 6; kernel++)
-        for (size_t at = 0; at < sizeof BINS / sizeof *BINS; at++)
-            reach_all_closed(kernel, BINS[at]);
+        for (size_t at = 0; at < sizeof BINS / sizeof *BINS; at++) {
+            reach_all_closed(kernel, BINS[at], 0, WIDEST);
+            reach_all_closed(kernel, BINS[at], 16, 235);
+        }
     return finish(&tally);
 }

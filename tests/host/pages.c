@@ -1,7 +1,7 @@
 /* Every function on memory beside which nothing can be read: pages [SEED [SMALL [LARGE]]]
- * Each thing that a call is lent, buffer, small array or number, ends exactly where the forbidden part starts, and in a
- * second call starts exactly where it ends. A call that reads or writes there fails, and is named. What the calls
- * answer and leave is compared with plain C, which works elsewhere. */
+ * Each thing that a call is lent, struct, buffer, small array or number, ends exactly where the forbidden part starts,
+ * and in a second call starts exactly where it ends. A call that reads or writes there fails, and is named. What the
+ * calls answer and leave is compared with plain C, which works elsewhere. */
 #define _GNU_SOURCE /* for mmap and sigaction */
 #include "pages.h"
 
@@ -72,7 +72,7 @@ static void drawn_cases(uint64_t cases, uint32_t most_side)
     }
 }
 
-static void try_lawful(struct settings s)
+static void try_lawful(lepsarvu_settings s)
 {
     tally.number++;
     lawful_case(&draw, s, try_both);
@@ -82,8 +82,8 @@ static void try_lawful(struct settings s)
 static void lawful_cases(void)
 {
     for (uint16_t kernel = 3; kernel <= 6; kernel++) {
-        try_lawful((struct settings){129, 129, 6, kernel, {12, 8, 6, 4, 3, 2, 1}});
-        try_lawful((struct settings){2, 2, 0, kernel, {1}});
+        try_lawful((lepsarvu_settings){129, 129, 6, kernel, 16, 235, {12, 8, 6, 4, 3, 2, 1}});
+        try_lawful((lepsarvu_settings){2, 2, 0, kernel, 0, 255, {1}});
     }
 }
 
@@ -125,14 +125,23 @@ static void check_rooms(enum place place)
         }
 }
 
-/* Plain C with one fault: it reads one slot past the bins. */
-static uint16_t over_reading(uint16_t columns, uint16_t rows, uint16_t depth, uint16_t kernel, const uint16_t bins[7],
-                             uint16_t bounds[7])
+/* Plain C with one fault: it reads a byte past the bins, which are the last of the settings. */
+static uint16_t over_reading(const lepsarvu_settings *s, uint16_t bounds[7])
 {
-    volatile size_t slot = LEPSARVU_SLOTS; /* volatile, so that the compiler does not know it */
-    volatile uint16_t read = bins[slot];
+    const unsigned char *bytes = (const void *)s;
+    volatile unsigned char read = bytes[sizeof *s];
     (void)read;
-    return plain_pyramid.level_bounds(columns, rows, depth, kernel, bins, bounds);
+    return plain_pyramid.level_bounds(s, bounds);
+}
+
+/* The same: it reads a byte before the note. */
+static uint16_t under_reading(const lepsarvu_settings *s, const lepsarvu_note *note, const int16_t *levels,
+                              size_t levels_length, uint8_t *file, size_t file_length, size_t *size)
+{
+    const unsigned char *bytes = (const void *)note;
+    volatile unsigned char read = *(bytes - 1);
+    (void)read;
+    return plain_file.write_file(s, note, levels, levels_length, file, file_length, size);
 }
 
 /* The same: it looks for a digit after a file that ends in one. */
@@ -143,7 +152,7 @@ static uint16_t over_checking(const uint8_t *file, size_t file_length, uint16_t 
     return plain_pgm.check_pgm(file, file_length, columns, rows);
 }
 
-/* A function that reads past the end of a thing fails where memory ends, and does not where more follows. */
+/* A function that reads past one end of a thing fails at one place, and does not at the other, where more follows. */
 static int is_seen(enum function function, enum thing thing)
 {
     struct tally before = tally;
@@ -159,21 +168,26 @@ static void check_faulty(void)
 {
     static const char CUT[] = "P5 13 1";
     struct pyramid_calls faulty = plain_pyramid;
+    struct file_calls faulty_file = plain_file;
     struct pgm_calls faulty_pgm = plain_pgm;
     faulty.level_bounds = over_reading;
+    faulty_file.write_file = under_reading;
     faulty_pgm.check_pgm = over_checking;
     tried_pyramid = &faulty;
+    tried_file = &faulty_file;
     tried_pgm = &faulty_pgm;
-    demand("a read past the bins was not seen", is_seen(LEVEL_BOUNDS, BINS));
+    demand("a read past the bins was not seen", is_seen(LEVEL_BOUNDS, SETTINGS));
+    demand("a read before the note was not seen", is_seen(WRITE_FILE, NOTE));
     provide_copy(FILE_PART, CUT, sizeof CUT - 1);
     demand("a read past a PGM file was not seen", is_seen(CHECK_PGM, FILE_PART));
     tried_pyramid = &library_pyramid;
+    tried_file = &library_file;
     tried_pgm = &library_pgm;
 }
 
 static void check_oneself(void)
 {
-    provide_settings(&draw, (struct settings){3, 3, 1, 4, {10, 4, 0, 0, 0, 0, 0}});
+    provide_settings(&draw, (lepsarvu_settings){3, 3, 1, 4, 0, 255, {10, 4, 0, 0, 0, 0, 0}});
     for (enum thing thing = PICTURE; thing <= FILE_PART; thing++)
         provide(&draw, thing, 13);
     check_rooms(AT_END);

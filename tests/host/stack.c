@@ -38,7 +38,7 @@ static void measure(enum function function)
     hold_again(function);
 }
 
-static void measure_lawful(struct settings s)
+static void measure_lawful(lepsarvu_settings s)
 {
     tally.number++;
     lawful_case(&draw, s, measure);
@@ -48,9 +48,9 @@ static void measure_lawful(struct settings s)
 static uint64_t lawful_cases(void)
 {
     for (uint16_t kernel = 3; kernel <= 6; kernel++) {
-        measure_lawful((struct settings){129, 129, 6, kernel, {12, 8, 6, 4, 3, 2, 1}});
-        measure_lawful((struct settings){129, 129, 6, kernel, {255, 255, 255, 255, 255, 255, 255}});
-        measure_lawful((struct settings){2, 2, 0, kernel, {1}});
+        measure_lawful((lepsarvu_settings){129, 129, 6, kernel, 16, 235, {12, 8, 6, 4, 3, 2, 1}});
+        measure_lawful((lepsarvu_settings){129, 129, 6, kernel, 0, 255, {255, 255, 255, 255, 255, 255, 255}});
+        measure_lawful((lepsarvu_settings){2, 2, 0, kernel, 0, 255, {1}});
     }
     return tally.number;
 }

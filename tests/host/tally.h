@@ -24,7 +24,7 @@ enum function {
     FUNCTIONS
 };
 
-enum { ANSWERS = 19, SHOWN_FAILURES = 20 };
+enum { ANSWERS = 21, SHOWN_FAILURES = 20 };
 
 struct tally {
     uint64_t number; /* of the case at hand */
@@ -70,7 +70,7 @@ static inline void print_answers(const struct tally *it)
 /* Sets of answers, a bit for each: acceptance and the settings' refusals; with them what both readers of a bale file
  * give; and what both readers of a PGM file give. */
 #define BIT(answer) (1u << (answer))
-#define OF_SETTINGS (BIT(0) | BIT(1) | BIT(13) | BIT(14) | BIT(15) | BIT(2) | BIT(3))
+#define OF_SETTINGS (BIT(0) | BIT(1) | BIT(13) | BIT(14) | BIT(15) | BIT(2) | BIT(19) | BIT(3))
 #define OF_FILE (OF_SETTINGS | BIT(4) | BIT(9) | BIT(10) | BIT(11) | BIT(12))
 #define OF_PGM (BIT(0) | BIT(16) | BIT(1) | BIT(17) | BIT(18))
 
@@ -78,8 +78,8 @@ static inline void print_answers(const struct tally *it)
 static inline void demand_answers(struct tally *it)
 {
     static const uint32_t LISTED[FUNCTIONS] = {
-        [CODING] = OF_SETTINGS | BIT(5) | BIT(6) | BIT(7),
-        [CLOSED_LOOP_CODING] = OF_SETTINGS | BIT(5) | BIT(6) | BIT(7),
+        [CODING] = OF_SETTINGS | BIT(5) | BIT(6) | BIT(7) | BIT(20),
+        [CLOSED_LOOP_CODING] = OF_SETTINGS | BIT(5) | BIT(6) | BIT(7) | BIT(20),
         [REBUILDING] = OF_SETTINGS | BIT(5) | BIT(6) | BIT(7) | BIT(11),
         [LEVEL_BOUNDS] = OF_SETTINGS,
         [CLOSED_LOOP_BOUNDS] = OF_SETTINGS,

@@ -1,5 +1,5 @@
 /* Holds the library to the answers of the Python reference, on standard input:
- * vectors pyramid|closed|levels|files|calls|pgm
+ * vectors pyramid|closed|levels|files|pyramid_greys|closed_greys|levels_greys|files_greys|calls|pgm
  * tests/reference/README.md gives the formats. */
 #include "guarded.h"
 #include "vectors.h"
@@ -130,31 +130,27 @@ static void levels_case(void)
 }
 
 /* Whether an accepted reader left this; what a refused one left was compared with what there was before. */
-static int holds_note(const struct note *is)
+static int holds_filled(const struct filled *is)
 {
-    return job.answer != 0 ||
-           (holds(SHAPE, is->shape, sizeof is->shape) && holds(READ_BINS, is->bins, sizeof is->bins) &&
-            holds(KINDS, is->kinds, sizeof is->kinds) && holds(NUMBERS, is->numbers, sizeof is->numbers));
+    return job.answer != 0 || (holds(READ_SETTINGS, &is->settings, sizeof is->settings) &&
+                               holds(READ_NOTE, &is->note, sizeof is->note));
 }
 
 /* Reads with a level buffer of some length; the vectors' indices, if any are due, are the next ones. */
-static void read_with(size_t many, uint16_t expected, const struct note *is)
+static void read_with(size_t many, uint16_t expected, const struct filled *is)
 {
     provide(&draw, LEVELS, many);
-    int passed = call(READ_FILE) && job.answer == expected && holds_note(is);
+    int passed = call(READ_FILE) && job.answer == expected && holds_filled(is);
     if (expected == 0)
         passed &= holds_indices(many);
     count(&tally, READ_FILE, job.answer, passed);
 }
 
 /* Writing what was read gives the file again. */
-static void write_again(const struct note *it, const uint8_t *file, size_t length)
+static void write_again(const struct filled *it, const uint8_t *file, size_t length)
 {
-    struct settings s = {it->shape[0], it->shape[1], it->shape[2], it->shape[3], {0}};
-    memcpy(s.bins, it->bins, sizeof s.bins);
-    provide_settings(&draw, s);
-    job.drier = (struct reading){it->kinds[0], it->numbers[0]};
-    job.press = (struct reading){it->kinds[1], it->numbers[1]};
+    provide_settings(&draw, it->settings);
+    provide_note(it->note);
     provide(&draw, FILE_PART, length);
     int passed = call(WRITE_FILE) && job.answer == 0 && holds(SIZE, &length, sizeof length);
     count(&tally, WRITE_FILE, job.answer, passed && holds(FILE_PART, file, length));
@@ -162,16 +158,18 @@ static void write_again(const struct note *it, const uint8_t *file, size_t lengt
 
 static void files_case(void)
 {
-    static const struct settings NONE;
-    struct note is = {{0}, {0}, {0}, {0}};
+    static const lepsarvu_settings NONE;
+    struct filled is = {NONE, {{0, 0}, {0, 0}}};
     uint16_t expected = (uint16_t)take_number(2);
     size_t nodes = take_number(2), length = take_number(4);
     const uint8_t *file = take(length);
-    if (expected == 0)
-        take_note(&is);
+    if (expected == 0) {
+        is.settings = take_settings();
+        is.note = take_note();
+    }
     provide_settings(&draw, NONE);
     provide_copy(FILE_PART, file, length);
-    int passed = call(CHECK_FILE) && job.answer == expected && holds_note(&is);
+    int passed = call(CHECK_FILE) && job.answer == expected && holds_filled(&is);
     count(&tally, CHECK_FILE, job.answer, passed);
     provide_settings(&draw, NONE);
     read_with(nodes + 1, nodes != 0 ? 6 : expected, &is);
@@ -184,11 +182,16 @@ int main(int words, char **word)
 {
     static const struct {
         const char *kind;
+        int with_greys;
         void (*check)(void);
-    } KINDS[] = {{"pyramid", pyramid_case}, {"closed", closed_case}, {"levels", levels_case}, {"files", files_case},
-                 {"calls", calls_case},     {"pgm", pgm_case}};
+    } KINDS[] = {
+        {"pyramid", 0, pyramid_case}, {"pyramid_greys", 1, pyramid_case}, {"closed", 0, closed_case},
+        {"closed_greys", 1, closed_case}, {"levels", 0, levels_case}, {"levels_greys", 1, levels_case},
+        {"files", 0, files_case}, {"files_greys", 1, files_case}, {"calls", 1, calls_case}, {"pgm", 0, pgm_case},
+    };
     for (size_t at = 0; words == 2 && at < sizeof KINDS / sizeof *KINDS; at++)
         if (strcmp(word[1], KINDS[at].kind) == 0) {
+            with_greys = KINDS[at].with_greys;
             while (next_case()) {
                 tally.number++;
                 KINDS[at].check();
@@ -197,6 +200,6 @@ int main(int words, char **word)
             print_answers(&tally);
             return finish(&tally);
         }
-    fprintf(stderr, "usage: vectors pyramid|closed|levels|files|calls|pgm\n");
+    fprintf(stderr, "usage: vectors pyramid|closed|levels|files, each with _greys too, calls or pgm\n");
     return 2;
 }

@@ -7,11 +7,13 @@
 extern struct seeded draw;
 extern struct tally tally;
 
+/* Whether the settings of the kind at hand have a black and a white; otherwise these are 0 and 255. */
+extern int with_greys;
+
 /* What a reader fills. */
-struct note {
-    uint16_t shape[4], bins[LEPSARVU_SLOTS];
-    uint8_t kinds[2];
-    uint32_t numbers[2];
+struct filled {
+    lepsarvu_settings settings;
+    lepsarvu_note note;
 };
 
 /* Makes a function's call between guards; answers whether what it may not write was kept. */
@@ -28,9 +30,8 @@ const uint8_t *take(size_t bytes);
 uint32_t take_number(int bytes);
 void take_numbers(uint16_t *to, int many);
 
-struct settings take_settings(void);
-void take_readings(struct note *it);
-void take_note(struct note *it);
+lepsarvu_settings take_settings(void);
+lepsarvu_note take_note(void);
 
 /* Settings and lengths that may be unlawful: the answer of every call. */
 void calls_case(void);

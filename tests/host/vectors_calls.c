@@ -1,4 +1,6 @@
 /* Cases of calls, accepted and refused: see vectors.h. */
+#include <string.h>
+
 #include "vectors.h"
 
 static void fill_levels(size_t many, int16_t index)
@@ -24,22 +26,21 @@ static void answers_with(enum function function, uint16_t expected, enum thing t
 
 void calls_case(void)
 {
-    struct note it;
     uint16_t length[4], answer[7];
     provide_settings(&draw, take_settings());
     take_numbers(length, 4);
-    take_readings(&it);
+    provide_note(take_note());
     int16_t index = (int16_t)(uint16_t)take_number(2);
     take_numbers(answer, 7);
     size_t bytes = take_number(4);
-    job.drier = (struct reading){it.kinds[0], it.numbers[0]};
-    job.press = (struct reading){it.kinds[1], it.numbers[1]};
+    int pixel = (int)take_number(1);
     provide(&draw, PICTURE, length[0]);
     fill_levels(length[1], index);
     provide(&draw, WORK, length[2]);
     provide(&draw, FILE_PART, length[3]);
     answers(REBUILDING, answer[1]);
     answers_with(WRITE_FILE, answer[2], SIZE, &bytes, sizeof bytes);
+    memset(job.held[PICTURE], pixel, length[0]);
     answers(CODING, answer[0]);
     answers(CLOSED_LOOP_CODING, answer[0]); /* document 02: the same numbers, in the same order */
     answers(LEVEL_BOUNDS, answer[3]);

@@ -60,7 +60,7 @@ static void write_with(size_t more, const struct whole *it)
 
 static void write_single(const struct whole *it)
 {
-    provide_settings(&draw, (struct settings){it->columns, it->rows, 0, 0, {0}});
+    provide_settings(&draw, (lepsarvu_settings){it->columns, it->rows, 0, 0, 0, 0, {0}});
     int passed = call(PGM_SIZE) && job.answer == 0 && holds(SIZE, &it->single_length, sizeof it->single_length);
     count(&tally, PGM_SIZE, job.answer, passed);
     provide(&draw, FILE_PART, it->single_length - 1);

@@ -7,6 +7,8 @@
 static uint8_t held[1 << 18];
 static size_t taken;
 
+int with_greys;
+
 const uint8_t *take(size_t bytes)
 {
     if (bytes > sizeof held - taken || fread(held + taken, 1, bytes, stdin) != bytes) {
@@ -39,30 +41,33 @@ void take_numbers(uint16_t *to, int many)
         *to++ = (uint16_t)take_number(2);
 }
 
-struct settings take_settings(void)
+lepsarvu_settings take_settings(void)
 {
-    struct settings s;
-    uint16_t shape[4];
-    take_numbers(shape, 4);
+    lepsarvu_settings s = {0, 0, 0, 0, 0, 255, {0}};
+    s.columns = (uint16_t)take_number(2);
+    s.rows = (uint16_t)take_number(2);
+    s.depth = (uint16_t)take_number(2);
+    s.kernel = (uint16_t)take_number(2);
+    if (with_greys) {
+        s.black = (uint16_t)take_number(2);
+        s.white = (uint16_t)take_number(2);
+    }
     take_numbers(s.bins, LEPSARVU_SLOTS);
-    s.columns = shape[0];
-    s.rows = shape[1];
-    s.depth = shape[2];
-    s.kernel = shape[3];
     return s;
 }
 
-void take_readings(struct note *it)
+static lepsarvu_reading take_reading(void)
 {
-    for (int reading = 0; reading < 2; reading++) {
-        it->kinds[reading] = (uint8_t)take_number(1);
-        it->numbers[reading] = take_number(4);
-    }
+    lepsarvu_reading it;
+    it.kind = take_number(1);
+    it.number = take_number(4);
+    return it;
 }
 
-void take_note(struct note *it)
+lepsarvu_note take_note(void)
 {
-    take_numbers(it->shape, 4);
-    take_numbers(it->bins, LEPSARVU_SLOTS);
-    take_readings(it);
+    lepsarvu_note it;
+    it.before_drier = take_reading();
+    it.at_press = take_reading();
+    return it;
 }
