@@ -4,15 +4,16 @@ from collections import Counter
 
 from bale import NO_SETTINGS, NONE_FITTED, file_size, is_percentage_lawful, listing, read_bale, write_bale
 from faulty_files import broken_shapes, faulty_files
+from faulty_greys import faulty_greys_files
 from pictures import random_indices
 from piece_a import BINS_COUNT_AT, COLUMNS_AT, DEPTH_AT, FILE_A, KERNEL_AT, ROWS_AT, changed, number
-from random_files import BITS_OF_100, damage, random_file, random_note
-from seeded import SEED, Seeded, random_settings
+from random_files import BITS_OF_100, GREYS_SHAPE_BYTES, damage, random_file, random_note
+from seeded import SEED, Seeded, random_greys, random_greys_settings
 from settings import total_nodes
 from tally import Tally
 
 # Refusals that the reader can answer without a lent level buffer.
-READER_REFUSALS = (1, 2, 3, 4, 9, 10, 11, 12, 13, 14, 15)
+READER_REFUSALS = (1, 2, 3, 4, 9, 10, 11, 12, 13, 14, 15, 19)
 
 
 def check_percentages(tally: Tally) -> None:
@@ -27,8 +28,8 @@ def check_percentages(tally: Tally) -> None:
 
 
 def check_faulty_files(tally: Tally) -> None:
-    """Files whose answers were worked by hand; a refusal holds 0 and not fitted."""
-    for data, answer in faulty_files():
+    """Files of both forms whose answers were worked by hand; a refusal holds 0 and not fitted."""
+    for data, answer in faulty_files() + faulty_greys_files():
         name = f"file {data[:64].hex()} of {len(data)}"
         bale = read_bale(data)
         tally.equal(name, bale.refusal, answer)
@@ -55,7 +56,7 @@ def check_lent_levels(tally: Tally) -> None:
 
 def check_whole_file(tally: Tally, name: str, numbers: Seeded) -> None:
     """Write then read, read then write, every truncation, one byte more."""
-    settings = random_settings(numbers, 9)
+    settings = random_greys_settings(numbers, 9)
     note = random_note(numbers)
     indices = random_indices(settings, numbers)
     size = file_size(settings)
@@ -75,8 +76,8 @@ def check_damaged_files(tally: Tally) -> None:
     """A damaged file is refused, or it is written again byte for byte; every refusal occurs."""
     numbers = Seeded(SEED + 6)
     answers = Counter()
-    for turn in range(3000):
-        data = damage(random_file(numbers, 7), numbers)
+    for turn in range(8000):
+        data = damage(random_file(numbers, 7, random_greys(numbers)), numbers, GREYS_SHAPE_BYTES)
         bale = read_bale(data)
         answers[bale.refusal] += 1
         if bale.refusal == 0:

@@ -4,12 +4,14 @@ from dataclasses import dataclass, replace
 from itertools import combinations
 
 from bale import NOT_FITTED, Note, Reading, file_size, read_bale, write_bale
+from faulty_greys import RIGHT_GREYS, WRONG_GREYS
 from faulty_shapes import SHAPES, first_of
 from manners import MANNERS
 from piece_a import NOTE_A
 from pyramid import rebuild
 from seeded import fill_slots
-from settings import BIN_SLOTS, KERNELS, Settings, deepest_depth, settings_refusal, total_nodes
+from settings import (BIN_SLOTS, FULL_GREYS, KERNELS, Settings, deepest_depth, settings_refusal, total_nodes,
+                      with_greys)
 from tally import Tally
 
 BASE = Settings(9, 5, 2, 4, fill_slots([3, 2, 1]))
@@ -45,9 +47,22 @@ def faulty_settings() -> list[tuple[Settings, int]]:
     return cases
 
 
+def faulty_greys() -> list[tuple[Settings, int]]:
+    """The base with another black and white, with a fault besides too: 19 is after the shape's and before the bins'."""
+    wrong_bin = replace(BASE, bins=(256,) + BASE.bins[1:])
+    cases = [(with_greys(BASE, greys), 0) for greys in (FULL_GREYS, *RIGHT_GREYS)]
+    cases += [(with_greys(wrong_bin, greys), 3) for greys in (FULL_GREYS, *RIGHT_GREYS)]
+    for greys in WRONG_GREYS:
+        wrong = with_greys(BASE, greys)
+        cases += [(wrong, 19), (with_greys(wrong_bin, greys), 19), (replace(wrong, kernel=7), 2),
+                  (replace(wrong, rows=6), 15), (replace(wrong, columns=6), 14), (replace(wrong, depth=7), 13),
+                  (replace(wrong, columns=1), 1)]
+    return cases
+
+
 def check_settings(tally: Tally) -> None:
     """Settings with a fault or two, at both ends of each range; the deepest depth knows 1 alone."""
-    for settings, answer in faulty_settings():
+    for settings, answer in faulty_settings() + faulty_greys():
         tally.equal(f"settings {settings}", settings_refusal(settings), answer)
         for manner in MANNERS:
             tally.equal(f"{manner.name} bound of {settings}", manner.bounds(settings)[0], answer)
@@ -62,7 +77,7 @@ class Call:
     """Settings, and what a coding, a rebuilding or a writing is lent or told besides."""
 
     settings: Settings
-    picture_length: int
+    picture: bytes
     work_length: int
     indices: list[int]
     note: Note
@@ -74,11 +89,13 @@ def faulty_call(columns: int, rows: int, depth: int, faults: tuple[int, ...]) ->
     bins = fill_slots([1] * min(depth + 1, BIN_SLOTS))
     if 3 in faults:
         bins = (256,) + bins[1:]
-    settings = Settings(columns, rows, depth, 7 if 2 in faults else 4, bins)
+    black, white = (16, 16) if 19 in faults else (16, 235)
+    settings = Settings(columns, rows, depth, 7 if 2 in faults else 4, bins, black, white)
     nodes = total_nodes(columns, rows, depth)
+    last_pixel = (black - 1, white + 1)[rows % 2] if 20 in faults else white
     return Call(
         settings,
-        columns * rows - (5 in faults),
+        bytes([black]) * (columns * rows - 1 + (5 in faults)) + bytes([last_pixel]),
         nodes - (7 in faults),
         [4097 if 11 in faults else 0] * (nodes + (6 in faults)),
         (NOTE_A[0], Reading(NOT_FITTED, 1 if 4 in faults else 0)),
@@ -87,7 +104,10 @@ def faulty_call(columns: int, rows: int, depth: int, faults: tuple[int, ...]) ->
 
 
 def broken_rules(call: Call) -> set[int]:
-    """The numbers of all rules that a call breaks, each rule written in another way than in the modules."""
+    """The numbers of all rules that a call breaks, each rule written in another way than in the modules.
+
+    The calls' black and white are never 0 and 255, so that a file has the longer form.
+    """
     settings = call.settings
     sides = (settings.columns, settings.rows)
     # The sides that suit the depth are 1 and, from there, each 2^N more; level l has every 2^l-th column and row.
@@ -102,13 +122,15 @@ def broken_rules(call: Call) -> set[int]:
         14: sides[0] not in suited,
         15: sides[1] not in suited,
         2: settings.kernel not in range(3, 7),
+        19: settings.white not in range(settings.black + 1, 256),
         3: min(used) < 1 or max(used) > 255 or any(unused),
         4: call.note != NOTE_A,
-        5: call.picture_length != sides[0] * sides[1],
+        5: len(call.picture) != sides[0] * sides[1],
         6: len(call.indices) != nodes,
         7: call.work_length < nodes,
-        8: call.file_length < 24 + 4 * len(steps) + 2 * nodes,
+        8: call.file_length < 28 + 4 * len(steps) + 2 * nodes,
         11: min(values) < -4096 or max(values) > 4096,
+        20: not set(call.picture) <= set(range(settings.black, settings.white + 1)),
     }
     return {number for number, is_broken in rules.items() if is_broken}
 
@@ -123,12 +145,12 @@ def check_coding_call(tally: Tally, call: Call, faults: tuple[int, ...]) -> None
     name = f"{call.settings} with faults {faults}"
     settings = call.settings
     for manner in MANNERS:
-        coded = manner.code(settings, bytes(call.picture_length), len(call.indices), call.work_length)
+        coded = manner.code(settings, call.picture, len(call.indices), call.work_length)
         tally.equal(f"{manner.name} coding of {name}", coded.refusal, first_of(set(faults) - {11}))
         answer = manner.bounds(settings)[0]
-        tally.equal(f"{manner.name} bound of {name}", answer, first_of(set(faults) & {1, 13, 14, 15, 2, 3}))
-    rebuilt = rebuild(settings, call.indices, call.picture_length, call.work_length)
-    tally.equal(f"rebuilding of {name}", rebuilt.refusal, first_of(faults))
+        tally.equal(f"{manner.name} bound of {name}", answer, first_of(set(faults) & {1, 13, 14, 15, 2, 19, 3}))
+    rebuilt = rebuild(settings, call.indices, len(call.picture), call.work_length)
+    tally.equal(f"rebuilding of {name}", rebuilt.refusal, first_of(set(faults) - {20}))
     deepest = deepest_depth(settings.columns, settings.rows)
     tally.equal(f"deepest depth of {name}", deepest[0], first_of(set(faults) & {1}))
 
@@ -142,7 +164,8 @@ def check_writer_call(tally: Tally, call: Call, faults: tuple[int, ...]) -> None
 def check_orders(tally: Tally) -> None:
     """Every set of the faults that a call looks for, with no other, is answered with the set's first in the order."""
     tally.equal("sets of rules that the shapes break", {shape[3] for shape in SHAPES}, set(subsets((1, 13, 14, 15))))
-    for others, check_call in (((2, 3, 5, 6, 7, 11), check_coding_call), ((2, 3, 4, 6, 8, 11), check_writer_call)):
+    for others, check_call in (((2, 19, 3, 5, 6, 7, 11, 20), check_coding_call),
+                               ((2, 19, 3, 4, 6, 8, 11), check_writer_call)):
         for columns, rows, depth, broken in SHAPES:
             for chosen in subsets(others):
                 faults = broken + chosen

@@ -28,7 +28,7 @@ class ClosedPiece:
     bounds: list[int]
     # Open-loop coding.
     open_indices: list[int]
-    # What a coder would leave that clamps each rebuilt level to 0 to 255 before it predicts from it, by mistake.
+    # What a coder would leave that clamps each rebuilt level to black and white before it predicts from it, by mistake.
     clamped_indices: list[int]
 
 
