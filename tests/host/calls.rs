@@ -1,5 +1,7 @@
-//! Document 01's piece A through the library from Rust: coding, rebuilding, the file, PGM files, and refusals.
+//! Document 01's piece A through the library from Rust: coding, rebuilding, the file, black and white of a camera, PGM
+//! files, and refusals.
 
+mod calls_greys;
 mod calls_pgm;
 mod calls_raw;
 mod lent;
@@ -7,11 +9,12 @@ mod lent;
 mod lepsarvu;
 
 use lent::{Guard, Lent};
-use lepsarvu::{Note, Reading, Refused, Settings};
+use lepsarvu::{Bale, Note, Reading, Refused, Settings};
 use std::fmt::Debug;
 
 const NODES: usize = 13;
-const PIECE_A: Settings = Settings { columns: 3, rows: 3, depth: 1, kernel: 4, bins: [10, 4, 0, 0, 0, 0, 0] };
+const PIECE_A: Settings =
+    Settings { columns: 3, rows: 3, depth: 1, kernel: 4, black: 0, white: 255, bins: [10, 4, 0, 0, 0, 0, 0] };
 const PICTURE: [u8; 9] = [0, 0, 0, 0, 100, 0, 0, 0, 0];
 const INDICES: [i16; NODES] = [6, 6, 6, 6, -3, -3, -3, -3, 7, -3, -3, -3, -3];
 const AVERAGES: [i32; NODES] = [25, 25, 25, 25, 0, 0, 0, 0, 100, 0, 0, 0, 0];
@@ -23,8 +26,8 @@ const CLOSED_INDICES: [i16; NODES] = [6, 6, 6, 6, -2, -2, -2, -2, 8, -2, -2, -2,
 const CLOSED_VALUES: [i32; NODES] = [24, 24, 24, 24, 4, 4, 4, 4, 104, 4, 4, 4, 4];
 const CLOSED_SHOWN: [u8; 9] = [4, 4, 4, 4, 104, 4, 4, 4, 4];
 
-const READINGS: [Reading; 2] = [Reading { kind: 1, number: 0x40D00000 }, Reading { kind: 0, number: 0 }];
-const NOTE: Note = Note { settings: PIECE_A, readings: READINGS };
+const NOTE: Note =
+    Note { before_drier: Reading { kind: 1, number: 0x40D00000 }, at_press: Reading { kind: 0, number: 0 } };
 const FILE: [u8; 58] = [
     4, 0, 3, 0, 3, 0, 1, 0, 4, 0, 2, 0, 4, 0, 10, 0, 2, 0, 1, 0, 0, 0xD0, 0x40, 0, 0, 0, 0, 0, 4, 0, 6, 0, 6, 0, 6, 0,
     6, 0, 9, 0, 0xFD, 0xFF, 0xFD, 0xFF, 0xFD, 0xFF, 0xFD, 0xFF, 7, 0, 0xFD, 0xFF, 0xFD, 0xFF, 0xFD, 0xFF, 0xFD, 0xFF,
@@ -103,7 +106,7 @@ fn refuse_shapes(t: &mut Tally) {
             b.code(lepsarvu::coding, 0, 0, 0).err(),
             b.code(lepsarvu::closed_loop_coding, 0, 0, 0).err(),
             b.rebuild(0).err(),
-            lepsarvu::write_file(&Note { settings: s, ..NOTE }, indices.part(), file.part_mut()).err(),
+            lepsarvu::write_file(&s, &NOTE, indices.part(), file.part_mut()).err(),
             lepsarvu::check_file(shaped.part()).err(),
             lepsarvu::read_file(shaped.part(), levels.part_mut()).err(),
         ];
@@ -127,7 +130,17 @@ struct Buffers {
 }
 
 impl Guard for Settings {
-    const GUARD: Self = Settings { columns: 0xA5A5, rows: 0xA5A5, depth: 0xA5A5, kernel: 0xA5A5, bins: [0xA5A5; 7] };
+    const GUARD: Self = {
+        let it = 0xA5A5;
+        Settings { columns: it, rows: it, depth: it, kernel: it, black: it, white: it, bins: [it; 7] }
+    };
+}
+
+impl Guard for Note {
+    const GUARD: Self = {
+        let it = Reading { kind: 0xA5A5_A5A5, number: 0xA5A5_A5A5 };
+        Note { before_drier: it, at_press: it }
+    };
 }
 
 impl Buffers {
@@ -214,23 +227,28 @@ fn refuse_buffers(t: &mut Tally) {
 
 fn write(t: &mut Tally) {
     let (indices, mut file, mut other) = (Lent::of(&INDICES), Lent::of(&[0xEE; 60]), Lent::of(&[0xEE; 60]));
-    t.equal("writing", lepsarvu::write_file(&NOTE, indices.part(), file.part_mut()), Ok(58));
+    t.equal("writing", lepsarvu::write_file(&PIECE_A, &NOTE, indices.part(), file.part_mut()), Ok(58));
     t.equal("file", &file.part()[..58], &FILE[..]);
     t.equal("after the file", &file.part()[58..], &[0xEE, 0xEE][..]);
     t.equal("guards", (indices.kept(), file.guards_kept()), (true, true));
-    let bad = |number| Note { readings: [Reading { kind: 1, number }, READINGS[1]], ..NOTE };
+    let with = |kind, number| Note { before_drier: Reading { kind, number }, ..NOTE };
     let large = Lent::of(&[1025; NODES]);
     for (name, note, levels, length, number) in [
-        ("above 100", bad(0x42C80001), indices.part(), 60, 4),
-        ("below 0", bad(0x80000000), indices.part(), 60, 4),
+        ("above 100", with(1, 0x42C80001), indices.part(), 60, 4),
+        ("below 0", with(1, 0x80000000), indices.part(), 60, 4),
+        ("kind 3", with(3, 0), indices.part(), 60, 4),
+        ("kind 256", with(256, 0), indices.part(), 60, 4),
+        ("kind 65538", with(65538, 9), indices.part(), 60, 4),
         ("levels", NOTE, &indices.part()[1..], 60, 6),
         ("file too short", NOTE, indices.part(), 57, 8),
         ("index", NOTE, large.part(), 60, 11),
     ] {
-        t.equal(name, lepsarvu::write_file(&note, levels, &mut other.part_mut()[..length]), refused(number));
+        let found = lepsarvu::write_file(&PIECE_A, &note, levels, &mut other.part_mut()[..length]);
+        t.equal(name, found, refused(number));
         t.equal("unchanged", (indices.kept(), large.kept(), other.kept()), (true, true, true));
     }
-    t.equal("100", lepsarvu::write_file(&bad(0x42C80000), indices.part(), other.part_mut()), Ok(58));
+    let found = lepsarvu::write_file(&PIECE_A, &with(1, 0x42C80000), indices.part(), other.part_mut());
+    t.equal("100", found, Ok(58));
     t.equal("guards", (indices.kept(), other.guards_kept()), (true, true));
 }
 
@@ -244,18 +262,24 @@ fn read(t: &mut Tally) {
     let longer = Lent::of(&[&FILE[..], &[0]].concat());
     t.equal("longer file", lepsarvu::read_file(longer.part(), levels.part_mut()), refused(12));
     let mut wrong = FILE;
-    wrong[0] = 5;
-    t.equal("wrong count", lepsarvu::check_file(Lent::of(&wrong).part()), refused(10));
+    for count in [0, 3, 5, 7] {
+        wrong[0] = count;
+        t.equal("wrong count", lepsarvu::check_file(Lent::of(&wrong).part()), refused(10));
+    }
     t.equal("unchanged", (file.kept(), longer.kept(), levels.kept()), (true, true, true));
-    t.equal("reading", lepsarvu::read_file(file.part(), levels.part_mut()), Ok(NOTE));
+    let bale = Bale { settings: PIECE_A, note: NOTE };
+    t.equal("reading", lepsarvu::read_file(file.part(), levels.part_mut()), Ok(bale));
     t.equal("indices read", levels.part(), &INDICES[..]);
-    t.equal("checking", lepsarvu::check_file(file.part()), Ok(NOTE));
+    t.equal("checking", lepsarvu::check_file(file.part()), Ok(bale));
     t.equal("guards", (file.kept(), levels.guards_kept()), (true, true));
 }
 
 fn main() {
     let mut t = Tally::default();
-    for part in [sizes, refuse_shapes, code_and_rebuild, refuse_buffers, write, read, calls_raw::all, calls_pgm::all] {
+    for part in [sizes, refuse_shapes, code_and_rebuild, refuse_buffers, write, read] {
+        part(&mut t);
+    }
+    for part in [calls_greys::all, calls_raw::all, calls_pgm::all] {
         part(&mut t);
     }
     println!("{} passed, {} failed", t.passed, t.failed);
