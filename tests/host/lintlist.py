@@ -21,6 +21,10 @@ SECONDS = 20
 WIDE = Path(__file__).resolve().parent.parent.parent / "examples" / "three-by-two.bale"
 LISTING_WIDE = "picture 3 2 depth 0 kernel 5\nmoisture fault 9 42C80000\nlevel 0 3 2 bin 7 within 3\n"
 
+# By hand from P5: piece A's file with six numbers in its shape. Its listing is that of the one with four.
+GREYS_A = bytes([6, 0]) + FILE_A[2:10] + bytes([16, 0, 235, 0]) + FILE_A[10:]
+REFUSED_GREYS = {10: bytes([0, 0, 255, 0]), 19: bytes([235, 0, 16, 0])}
+
 
 def files(numbers: Seeded) -> Iterator[bytes]:
     """Piece A's file and its faults, whole and damaged files of all sizes, and random bytes."""
@@ -50,6 +54,16 @@ def check_wide(tally: Tally, program: str) -> None:
     tally.equal("three by two", listing(data), LISTING_WIDE)
 
 
+def check_greys(tally: Tally, program: str) -> None:
+    """Black and white don't show in the listing, whose lines are those of document 01; refused they do."""
+    check_listing(tally, program, GREYS_A)
+    tally.equal("black and white", listing(GREYS_A), LISTING_A)
+    for number, greys in REFUSED_GREYS.items():
+        data = GREYS_A[:10] + greys + GREYS_A[14:]
+        check_listing(tally, program, data)
+        tally.equal("refused black and white", listing(data), f"refused {number}\n")
+
+
 def check_pieces(tally: Tally, program: str) -> None:
     """A file that comes through a pipe byte by byte is listed whole."""
     with subprocess.Popen([program], stdin=subprocess.PIPE, stdout=subprocess.PIPE) as running:
@@ -74,6 +88,7 @@ def main(program: str) -> int:
     for data in files(Seeded(SEED + 300)):
         check_listing(tally, program, data)
     check_wide(tally, program)
+    check_greys(tally, program)
     check_pieces(tally, program)
     check_no_input(tally, program, "<&-")
     check_no_input(tally, program, "</")
