@@ -9,7 +9,7 @@ from pictures import random_indices
 from piece_a import BINS_COUNT_AT, COLUMNS_AT, DEPTH_AT, FILE_A, KERNEL_AT, ROWS_AT, changed, number
 from random_files import BITS_OF_100, GREYS_SHAPE_BYTES, damage, random_file, random_note
 from seeded import SEED, Seeded, random_greys, random_greys_settings
-from settings import total_nodes
+from settings import Settings, total_nodes
 from tally import Tally
 
 # Refusals that the reader can answer without a lent level buffer.
@@ -29,6 +29,7 @@ def check_percentages(tally: Tally) -> None:
 
 def check_faulty_files(tally: Tally) -> None:
     """Files of both forms whose answers were worked by hand; a refusal holds 0 and not fitted."""
+    tally.equal("settings of a refusal", NO_SETTINGS, Settings(0, 0, 0, 0, (0,) * 7, 0, 0))
     for data, answer in faulty_files() + faulty_greys_files():
         name = f"file {data[:64].hex()} of {len(data)}"
         bale = read_bale(data)
