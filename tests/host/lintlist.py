@@ -10,6 +10,7 @@ sys.path.insert(0, str(Path(__file__).resolve().parent.parent / "reference"))
 
 from bale import listing  # noqa: E402
 from faulty_files import faulty_files  # noqa: E402
+from faulty_greys import faulty_greys_files  # noqa: E402
 from piece_a import FILE_A, LISTING_A  # noqa: E402
 from random_files import damage, random_file  # noqa: E402
 from seeded import SEED, Seeded  # noqa: E402
@@ -23,16 +24,17 @@ LISTING_WIDE = "picture 3 2 depth 0 kernel 5\nmoisture fault 9 42C80000\nlevel 0
 
 # By hand from P5: piece A's file with six numbers in its shape. Its listing is that of the one with four.
 GREYS_A = bytes([6, 0]) + FILE_A[2:10] + bytes([16, 0, 235, 0]) + FILE_A[10:]
+GREYS = [(0, 255), (16, 235), (0, 254), (254, 255)]
 REFUSED_GREYS = {10: bytes([0, 0, 255, 0]), 19: bytes([235, 0, 16, 0])}
 
 
 def files(numbers: Seeded) -> Iterator[bytes]:
-    """Piece A's file and its faults, whole and damaged files of all sizes, and random bytes."""
+    """Piece A's file and one with black and white, their faults, whole and damaged files of all sizes, random bytes."""
     yield FILE_A
-    for data, _ in faulty_files():
+    for data, _ in [*faulty_files(), *faulty_greys_files()]:
         yield data
-    for side in [9] * 60 + [129] * 20:
-        data = random_file(numbers, side)
+    for at, side in enumerate([9] * 120 + [129] * 40):
+        data = random_file(numbers, side, GREYS[at % len(GREYS)])
         yield data
         yield damage(data, numbers)
         yield damage(data, numbers)
