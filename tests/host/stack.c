@@ -16,11 +16,11 @@ enum { MOST_PGM_SIZE = 128, MOST_WRITE_PGM = 256, MOST_READ_PGM = 512, MOST_CHEC
 static const struct {
     size_t least, most;
 } LIMITS[FUNCTIONS] = {
-    [CODING] = {40 + 8 + 2 * 516, 2432}, [REBUILDING] = {40 + 8 + 516, 1024}, [LEVEL_BOUNDS] = {8, 128},
-    [DEEPEST_DEPTH] = {8, 128},          [TOTAL_NODES] = {8, 128},            [FILE_SIZE] = {8, 128},
-    [WRITE_FILE] = {64 + 8, 1280},       [READ_FILE] = {16 + 8, 1280},        [CHECK_FILE] = {8, 1280},
-    [PGM_SIZE] = {8, MOST_PGM_SIZE},     [WRITE_PGM] = {8 + 8, MOST_WRITE_PGM}, [READ_PGM] = {8, MOST_READ_PGM},
-    [CHECK_PGM] = {8, MOST_CHECK_PGM},   [CLOSED_LOOP_CODING] = {40 + 8 + 2 * 516, MOST_CLOSED_LOOP_CODING},
+    [CODING] = {8 + 8 + 2 * 516, 2432}, [REBUILDING] = {8 + 8 + 516, 1024}, [LEVEL_BOUNDS] = {8, 128},
+    [DEEPEST_DEPTH] = {8, 128},         [TOTAL_NODES] = {8, 128},           [FILE_SIZE] = {8, 128},
+    [WRITE_FILE] = {8 + 8, 1280},       [READ_FILE] = {8, 1280},            [CHECK_FILE] = {8, 1280},
+    [PGM_SIZE] = {8, MOST_PGM_SIZE},    [WRITE_PGM] = {8 + 8, MOST_WRITE_PGM}, [READ_PGM] = {8, MOST_READ_PGM},
+    [CHECK_PGM] = {8, MOST_CHECK_PGM},  [CLOSED_LOOP_CODING] = {8 + 8 + 2 * 516, MOST_CLOSED_LOOP_CODING},
     [CLOSED_LOOP_BOUNDS] = {8, MOST_CLOSED_LOOP_BOUNDS},
 };
 
