@@ -16,8 +16,8 @@ use Rattle.pyramid.proofs.Refusals.{first_nil, first_none, first_pass, unless_ho
 use Rattle.pyramid.proofs.Sizes.{nodes_to-zero, nodes_to-suc, total-is}
 use Rattle.bale.specs.declared.Note.{Note}
 use Rattle.bale.specs.Definitions.Readings.{note_ok}
-use Rattle.bale.specs.Definitions.Files.{file_length}
-use Rattle.bale.specs.Definitions.Reader.{depth_in, levels_place, settings_in, levels_from, levels_in, shape_section_refusal, level_sections_refusal, body_refusal}
+use Rattle.bale.specs.Definitions.Files.{shape_count, file_length}
+use Rattle.bale.specs.Definitions.Reader.{count_in, depth_in, levels_place, settings_in, levels_from, levels_in, shape_section_refusal, level_sections_refusal, body_refusal}
 use Rattle.bale.specs.Definitions.Calls.{write_refusal, read_refusal}
 use Rattle.bale.proofs.Sections.{eqb_of}
 use Rattle.bale.proofs.LevelTrips.{length_from}
@@ -73,31 +73,34 @@ module _ (bytes : List ℕ) where
       omega (arith, nodes_to-suc s l, file_end s l (at + 2 + 2 * nodes_at s (suc l)) (first_none _ _ e₂).0)
 
   pub record AcceptedFile (places : ℕ) : Type 0 where
+    pub counted : count_in bytes ≡ shape_count (settings_in bytes)
     pub shaped : Shaped (settings_in bytes)
     pub places_are : places ≡ total (settings_in bytes)
-    pub whole : levels_place (settings_in bytes).depth + 2 * ((settings_in bytes).depth + 1) + 2 * nodes_to (settings_in bytes) (settings_in bytes).depth ≡ length bytes
+    pub whole : levels_place (settings_in bytes) + 2 * ((settings_in bytes).depth + 1) + 2 * nodes_to (settings_in bytes) (settings_in bytes).depth ≡ length bytes
 
   pub accepted_file : (places : ℕ) → read_refusal bytes places ≡ 0 → AcceptedFile places
   unfolding read_refusal shape_section_refusal body_refusal settings_in
   accepted_file places e =
       let (shape, e₆) = first_none _ _ e in
       let (six, body) = first_none _ _ e₆ in
-      let (_, e₁) = first_none _ _ shape in
+      let (_, e₁₀) = first_none _ _ shape in
+      let (ten, e₁) = first_none _ _ e₁₀ in
       let (_, e₄) = first_none _ _ (first_none _ _ body).0 in
       let (_, e₉) = first_none _ _ e₄ in
       record {
+        counted = eqb→eq _ _ (unless_none (eqb (count_in bytes) (shape_count (settings_in bytes))) 9 ten);
         shaped = accepted_shape (settings_in bytes) (first_none _ _ e₁).0;
         places_are = eqb→eq _ _ (unless_none (eqb places (total (settings_in bytes))) 5 six);
-        whole = file_end (settings_in bytes) (depth_in bytes) (levels_place (depth_in bytes)) (first_none _ _ e₉).0;
+        whole = file_end (settings_in bytes) (depth_in bytes) (levels_place (settings_in bytes)) (first_none _ _ e₉).0;
       }
 
   -- what fills the level buffer is all that it then holds
   pub filled : (s : Settings) (levels : List ℤ) {new : List ℤ} → s ≡ settings_in bytes → read_refusal bytes (length levels) ≡ 0
-      → new ≡ splice 0 (levels_from bytes s s.depth (levels_place s.depth)) levels → new ≡ levels_in bytes
+      → new ≡ splice 0 (levels_from bytes s s.depth (levels_place s)) levels → new ≡ levels_in bytes
   unfolding settings_in
   filled s levels e accepted q =
       let n : length (levels_in bytes) ≡ length levels =
-      length_from (settings_in bytes) bytes (depth_in bytes) (levels_place (depth_in bytes)) ∙ sym (total-is (settings_in bytes))
+      length_from (settings_in bytes) bytes (depth_in bytes) (levels_place (settings_in bytes)) ∙ sym (total-is (settings_in bytes))
       ∙ sym (accepted_file (length levels) accepted).places_are
       in
-      q ∙ ap (λ (x : Settings). splice 0 (levels_from bytes x x.depth (levels_place x.depth)) levels) e ∙ splice_whole (levels_in bytes) levels n
+      q ∙ ap (λ (x : Settings). splice 0 (levels_from bytes x x.depth (levels_place x)) levels) e ∙ splice_whole (levels_in bytes) levels n

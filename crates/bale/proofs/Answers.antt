@@ -12,7 +12,7 @@ use Rattle.pyramid.specs.Definitions.Calls.{leaves}
 use Rattle.pyramid.proofs.Refusals.{first_skip, first-last, answers_fails, unless_passes, leaves_new, leaves_kept, outcome_left}
 use Rattle.bale.specs.declared.Note.{Note}
 use Rattle.bale.specs.Definitions.Files.{file_of, file_length}
-use Rattle.bale.specs.Definitions.Reader.{depth_in, settings_in, note_in, levels_in, shape_section_refusal, body_refusal}
+use Rattle.bale.specs.Definitions.Reader.{settings_in, note_in, levels_in, shape_section_refusal, body_refusal}
 use Rattle.bale.specs.Definitions.Calls.{bale_in, check_refusal, check_file, write_refusal, write_file, no_settings, no_note, bale_of, read_refusal, read_file}
 
 -- ---- the writer
@@ -45,9 +45,9 @@ module _ (s : Settings) (note : Note) (levels : List ℤ) (file : List ℕ) wher
 -- ---- the reader
 
 module _ (bytes : List ℕ) where
-  pub bale_is : bale_of bytes 0 ≡ record { refusal = 0; settings = settings_in bytes; note = note_in bytes (depth_in bytes) }
+  pub bale_is : bale_of bytes 0 ≡ record { refusal = 0; settings = settings_in bytes; note = note_in bytes (settings_in bytes) }
   unfolding bale_of
-  bale_is = rw (leaves_new 0 (settings_in bytes) no_settings refl, leaves_new 0 (note_in bytes (depth_in bytes)) no_note refl)
+  bale_is = rw (leaves_new 0 (settings_in bytes) no_settings refl, leaves_new 0 (note_in bytes (settings_in bytes)) no_note refl)
 
   -- what is left to look at
   check_left : shape_section_refusal bytes ≡ 0 → check_refusal bytes ≡ body_refusal bytes
@@ -64,25 +64,25 @@ module _ (bytes : List ℕ) where
     places_right right = first_skip _ _ shape ∙ first_skip _ _ (unless_passes 6 (eq-eqb _ _ right)) ∙ first-last _
 
   -- what a call answers of the bale
-  pub bale_left : (n : ℕ) → outcome n (bale_in (bale_of bytes n)) ≡ outcome n (record { settings = settings_in bytes; note = note_in bytes (depth_in bytes) })
+  pub bale_left : (n : ℕ) → outcome n (bale_in (bale_of bytes n)) ≡ outcome n (record { settings = settings_in bytes; note = note_in bytes (settings_in bytes) })
   unfolding outcome bale_of leaves
   bale_left zero = refl
   bale_left (suc n) = refl
 
   pub checked : shape_section_refusal bytes ≡ 0
-      → outcome (body_refusal bytes) (record { settings = settings_in bytes; note = note_in bytes (depth_in bytes) })
+      → outcome (body_refusal bytes) (record { settings = settings_in bytes; note = note_in bytes (settings_in bytes) })
       ≡ outcome (check_file bytes).refusal (bale_in (check_file bytes))
   unfolding check_file bale_of
   checked shape = sym (bale_left (body_refusal bytes)) ∙ ap (λ (n : ℕ). outcome n (bale_in (bale_of bytes n))) (sym (check_left shape))
 
   pub reading_is : (levels : List ℤ) → read_refusal bytes (length levels) ≡ 0
-      → read_file bytes levels ≡ record { answer = record { refusal = 0; settings = settings_in bytes; note = note_in bytes (depth_in bytes) }; levels = levels_in bytes }
+      → read_file bytes levels ≡ record { answer = record { refusal = 0; settings = settings_in bytes; note = note_in bytes (settings_in bytes) }; levels = levels_in bytes }
   unfolding read_file
   reading_is levels e = rw (e, bale_is, leaves_new 0 (levels_in bytes) levels refl)
 
 -- a call that is refused, and one that is not
 module _ (bytes : List ℕ) (levels : List ℤ) where
-  pub reading_left : outcome (read_refusal bytes (length levels)) (record { settings = settings_in bytes; note = note_in bytes (depth_in bytes) })
+  pub reading_left : outcome (read_refusal bytes (length levels)) (record { settings = settings_in bytes; note = note_in bytes (settings_in bytes) })
       ≡ outcome (read_file bytes levels).answer.refusal (bale_in (read_file bytes levels).answer)
   unfolding read_file bale_of
   reading_left = sym (bale_left bytes (read_refusal bytes (length levels)))

@@ -16,11 +16,12 @@ use Rattle.pyramid.specs.declared.Settings.{Settings}
 use Rattle.pyramid.specs.declared.Manner.{Manner}
 use Rattle.pyramid.specs.Definitions.Sizes.{total}
 use Rattle.pyramid.specs.Definitions.Bound.{bound_at}
-use Rattle.pyramid.specs.Definitions.Buffers.{Bytes}
+use Rattle.pyramid.specs.Definitions.Refusals.{pixels_ok}
 use Rattle.pyramid.specs.Definitions.Calls.{coding, rebuilding}
 use Rattle.pyramid.proofs.Refusals.{first_nil, first_none, first_pass, leaves_new, leaves_kept}
 use Rattle.pyramid.proofs.CodedLevels.{coding_accepts, coded-pixels, rebuilding_accepts}
-use Rattle.pyramid.proofs.Accuracy.{rebuilt_near, rebuilt-size, rebuilt_bytes}
+use Rattle.pyramid.proofs.Accuracy.{rebuilt_near, rebuilt-size}
+use Rattle.pyramid.proofs.Clamps.{pixels_inside, shown_pixels}
 use Rattle.bale.specs.declared.Note.{Note}
 use Rattle.bale.specs.Definitions.Readings.{HeldReading, note_ok}
 use Rattle.bale.specs.Definitions.Files.{file_of, file_length}
@@ -74,7 +75,6 @@ module _ (first : List ℕ) (note : Note) (noted : T (note_ok note)) (drier : He
     picture : List ℕ
     levels : List ℤ
     work : List ℤ
-    legal : Bytes picture
     seven : length settings.bins ≡ 7
     coded : (coding settings manner picture levels work).answer ≡ 0
     is : bytes ≡ file_of settings note (coding settings manner picture levels work).levels
@@ -88,10 +88,10 @@ module _ (first : List ℕ) (note : Note) (noted : T (note_ok note)) (drier : He
     m = (coding s h.manner h.picture h.levels h.work).levels
 
     held : Held s note m
-    held = record { seven = h.seven; drier = drier; press = press; short = coded_short s h.manner h.picture h.levels h.work h.coded h.legal }
+    held = record { seven = h.seven; drier = drier; press = press; short = coded_short s h.manner h.picture h.levels h.work h.coded }
 
     trip : WrittenIsRead s note m
-    trip = written_then_read s note m (file_length s) held (coded_then_written s note h.manner h.picture h.levels h.work (file_length s) h.legal h.coded noted (le_refl (file_length s)))
+    trip = written_then_read s note m (file_length s) held (coded_then_written s note h.manner h.picture h.levels h.work (file_length s) h.coded noted (le_refl (file_length s)))
 
     abbrev whole : ReadOutcome
     whole = record { answer = record { refusal = 0; settings = s; note = note }; levels = m }
@@ -121,14 +121,14 @@ module _ (first : List ℕ) (note : Note) (noted : T (note_ok note)) (drier : He
     -- what it shows, to whoever lends buffers of right lengths
     module _ (levels : List ℤ) (picture : List ℕ) (work : List ℤ) (long : length levels ≡ total s) (pixels : length picture ≡ s.rows * s.columns) (room : total s ≤ length work) where
       rebuilds : (rebuilding s m picture work).answer ≡ 0
-      rebuilds = rebuilding_accepts s h.manner h.picture h.levels h.work h.legal h.coded picture work pixels room
+      rebuilds = rebuilding_accepts s h.manner h.picture h.levels h.work h.coded picture work pixels room
 
       one : ShownWithin first within bytes levels picture work
       one = record {
         read = ap (λ (r : ReadOutcome). r.answer) (read_is levels long) ∙ sym checked;
         rebuilt = rw (checked, read_is levels long) rebuilds;
         moved = λ p. rw (checked, read_is levels long)
-            (nearer _ (get_or h.picture p 0) (get_or first p 0) (h.near p) (rebuilt_near s h.manner h.picture h.levels h.work picture work h.coded rebuilds h.legal p));
+            (nearer _ (get_or h.picture p 0) (get_or first p 0) (h.near p) (rebuilt_near s h.manner h.picture h.levels h.work picture work h.coded rebuilds p));
       }
 
     shows : Shows first note within bytes
@@ -157,14 +157,13 @@ module _ (first : List ℕ) (note : Note) (noted : T (note_ok note)) (drier : He
         picture = (shown bytes c).picture;
         levels = c.levels;
         work = c.coding_work;
-        legal = back (λ r. Bytes (rebuilding r.answer.settings r.levels c.picture c.work).picture) (rebuilt_bytes s h.manner h.picture h.levels h.work c.picture c.work h.coded rebuilt_ok);
         seven = c.seven;
         coded = e₃;
         is = written_bytes_lem c.settings (source bytes c).answer.note (recoded bytes c).levels c.file e₄
             ∙ ap (λ (r : ReadOutcome). file_of c.settings r.answer.note (recoded bytes c).levels) found;
         near = λ p. farther (bound_at c.settings c.manner 0)
             (back (λ r. distance (get_or (rebuilding r.answer.settings r.levels c.picture c.work).picture p 0) (get_or first p 0) ≤ within)
-            (nearer _ (get_or h.picture p 0) (get_or first p 0) (h.near p) (rebuilt_near s h.manner h.picture h.levels h.work c.picture c.work h.coded rebuilt_ok h.legal p)));
+            (nearer _ (get_or h.picture p 0) (get_or first p 0) (h.near p) (rebuilt_near s h.manner h.picture h.levels h.work c.picture c.work h.coded rebuilt_ok p)));
       }
 
     step : (c : Copy) → Holds (within + copy_bound bytes c) (copied bytes c)
@@ -210,22 +209,25 @@ module _ (first : List ℕ) (note : Note) (noted : T (note_ok note)) (drier : He
       shown_long =
           subst (λ (r : ReadOutcome). length (rebuilding r.answer.settings r.levels c.picture c.work).picture ≡ length h.picture) (sym taken)
           (rebuilt-size h.settings h.manner h.picture h.levels h.work c.picture c.work h.coded shows_it)
-          ∙ coded-pixels h.settings h.manner h.picture h.levels h.work h.legal h.coded ∙ suits.pixels
+          ∙ coded-pixels h.settings h.manner h.picture h.levels h.work h.coded ∙ suits.pixels
 
-      shown_legal : Bytes (shown bytes c).picture
-      shown_legal =
-          subst (λ (r : ReadOutcome). Bytes (rebuilding r.answer.settings r.levels c.picture c.work).picture) (sym taken)
-          (rebuilt_bytes h.settings h.manner h.picture h.levels h.work c.picture c.work h.coded shows_it)
+      -- every pixel that is shown lies between the old black and white, and so between the copy's
+      shown_inside : T (pixels_ok c.settings (shown bytes c).picture)
+      shown_inside =
+          pixels_inside (source bytes c).answer.settings c.settings (shown bytes c).picture
+          (shown_pixels (source bytes c).answer.settings (source bytes c).levels c.picture c.work shown_ok)
+          (subst (λ (r : ReadOutcome). c.settings.black ≤ r.answer.settings.black) (sym taken) suits.black)
+          (subst (λ (r : ReadOutcome). r.answer.settings.white ≤ c.settings.white) (sym taken) suits.white)
 
       recoded_ok : (recoded bytes c).answer ≡ 0
       recoded_ok =
           coding_accepts c.settings c.manner (shown bytes c).picture c.levels c.coding_work suits.lawful
-          (record { picture_is = shown_long; levels_is = suits.levels; work_least = suits.coding_work })
+          (record { picture_is = shown_long; levels_is = suits.levels; work_least = suits.coding_work }) shown_inside
 
       rewritten_ok : (rewritten bytes c).answer.refusal ≡ 0
       rewritten_ok =
           writing_refusal c.settings (source bytes c).answer.note (recoded bytes c).levels c.file
-          ∙ coded_then_written c.settings (source bytes c).answer.note c.manner (shown bytes c).picture c.levels c.coding_work (length c.file) shown_legal recoded_ok
+          ∙ coded_then_written c.settings (source bytes c).answer.note c.manner (shown bytes c).picture c.levels c.coding_work (length c.file) recoded_ok
           (subst (λ (r : ReadOutcome). T (note_ok r.answer.note)) (sym taken) noted) suits.file
 
       copy_made : copy_refusal bytes c ≡ 0
@@ -263,7 +265,6 @@ module _ (f : Filing) (ok : filing_refusal f ≡ 0) where
     picture = f.picture;
     levels = f.levels;
     work = f.work;
-    legal = f.bytes;
     seven = f.seven;
     coded = firstly.0;
     is = written_bytes_lem f.settings f.note (first_coded f).levels f.file firstly.1;

@@ -13,11 +13,12 @@ use Rattle.pyramid.specs.declared.Settings.{Settings}
 use Rattle.pyramid.specs.Definitions.Settings.{bin, bins_ok}
 use Rattle.pyramid.specs.Definitions.Sizes.{nodes_at}
 use Rattle.pyramid.specs.Definitions.Refusals.{unless, index_ok, shape_refusal}
-use Rattle.pyramid.proofs.Refusals.{first_stop, first_skip, first-last, first_none}
+use Rattle.pyramid.proofs.Refusals.{first_stop, first_skip, first-last, first_none, answers_fails, unless_passes}
 use Rattle.mathematics.specs.Inner.Splices.{part}
 use Rattle.bale.specs.Definitions.Words.{indices_at}
 use Rattle.bale.specs.Definitions.Sections.{section_refusal}
-use Rattle.bale.specs.Definitions.Reader.{depth_in, settings_in, levels_place, readings_section_refusal, shape_section_refusal, bins_section_refusal, level_section_refusal, level_sections_refusal}
+use Rattle.bale.specs.Definitions.Files.{shape_count}
+use Rattle.bale.specs.Definitions.Reader.{count_in, depth_in, settings_in, bins_place, levels_place, readings_section_refusal, shape_section_refusal, bins_section_refusal, level_section_refusal, level_sections_refusal}
 use Rattle.bale.proofs.After.{sections_after}
 use Rattle.bale.proofs.WordLists.{indices_whole}
 use Rattle.bale.proofs.Sections.{section_whole}
@@ -25,30 +26,34 @@ use Rattle.bale.proofs.Sections.{section_whole}
 -- ---- the settings that a file holds
 
 module _ (bytes : List ℕ) where
-  pub shape_left : section_refusal bytes 0 4 2 ≡ 0 → shape_section_refusal bytes ≡ shape_refusal (settings_in bytes)
-  unfolding shape_section_refusal
-  shape_left none = first_skip _ _ none ∙ first-last _
+  module _ (none : section_refusal bytes 0 (count_in bytes) 2 ≡ 0) where
+    pub shape_miscounted : (count_in bytes ≡ shape_count (settings_in bytes) → ⊥) → 10 ≡ shape_section_refusal bytes
+    unfolding shape_section_refusal
+    shape_miscounted wrong = answers_fails _ (ne_eqb _ _ wrong) ∙ sym (first_skip _ _ none)
+
+    pub shape_left : count_in bytes ≡ shape_count (settings_in bytes) → shape_section_refusal bytes ≡ shape_refusal (settings_in bytes)
+    unfolding shape_section_refusal
+    shape_left counted = first_skip _ _ none ∙ first_skip _ _ (unless_passes 10 (eq-eqb _ _ counted)) ∙ first-last _
 
   module _ (s : Settings) (e : s ≡ settings_in bytes) where
     pub depth_in_lem : s.depth ≡ depth_in bytes
     unfolding settings_in
     depth_in_lem = rw e
 
-    pub readings_in : readings_section_refusal bytes s.depth ≡ readings_section_refusal bytes (depth_in bytes)
-    readings_in = ap (readings_section_refusal bytes) depth_in_lem
+    pub readings_in : readings_section_refusal bytes s ≡ readings_section_refusal bytes (settings_in bytes)
+    readings_in = ap (readings_section_refusal bytes) e
 
-    pub levels_in_lem : level_sections_refusal bytes s s.depth (levels_place s.depth)
-        ≡ level_sections_refusal bytes (settings_in bytes) (depth_in bytes) (levels_place (depth_in bytes))
-    unfolding settings_in
-    levels_in_lem = rw e
+    pub levels_in_lem : level_sections_refusal bytes s s.depth (levels_place s)
+        ≡ level_sections_refusal bytes (settings_in bytes) (depth_in bytes) (levels_place (settings_in bytes))
+    levels_in_lem = rw (← e, ← depth_in_lem)
 
-    pub bins_stop : (section_refusal bytes 10 (s.depth + 1) 2 ≡ 0 → ⊥) → bins_section_refusal bytes ≡ section_refusal bytes 10 (s.depth + 1) 2
+    pub bins_stop : (section_refusal bytes (bins_place s) (s.depth + 1) 2 ≡ 0 → ⊥) → bins_section_refusal bytes ≡ section_refusal bytes (bins_place s) (s.depth + 1) 2
     unfolding bins_section_refusal
-    bins_stop = rw depth_in_lem (first_stop _ _)
+    bins_stop = rw (← e, ← depth_in_lem) (first_stop _ _)
 
-    pub bins_left : section_refusal bytes 10 (s.depth + 1) 2 ≡ 0 → bins_section_refusal bytes ≡ unless (bins_ok s) 3
+    pub bins_left : section_refusal bytes (bins_place s) (s.depth + 1) 2 ≡ 0 → bins_section_refusal bytes ≡ unless (bins_ok s) 3
     unfolding bins_section_refusal
-    bins_left none = let n : section_refusal bytes 10 (depth_in bytes + 1) 2 ≡ 0 = rw depth_in_lem at none in first_skip _ _ n ∙ first-last _ ∙ rw e
+    bins_left none = rw (← e, ← depth_in_lem) (first_skip _ _ none ∙ first-last _)
 
 -- ---- a level's section
 

@@ -1,8 +1,8 @@
 -- Each number of the writer is given on its condition and on no other, since it looks through rules with their tests. Assumes nothing.
-use mathlib.Core.Path.{◌≡◌}
+use mathlib.Core.Path.{◌≡◌, refl}
 use mathlib.Core.Logic.Iff
 use mathlib.Core.Logic.{◌↔◌}
-use mathlib.Core.Bool.{Bool, true}
+use mathlib.Core.Bool.{Bool, true, false, cond}
 use mathlib.Core.List.{List, [], ◌∷◌, ◌++◌}
 use Prim.Native.Nat.{ℕ, ◌+◌, ◌*◌, ◌≤◌, ◌<◌}
 use lib.Dec.{T, leb, ltb, eqb, ltb→lt, lt→ltb, eqb→eq}
@@ -20,9 +20,9 @@ use Rattle.bale.specs.declared.Reading.{Reading}
 use Rattle.bale.specs.declared.Reading.TheVariants.{NotFitted, Percentage, Fault}
 use Rattle.bale.specs.declared.Note.{Note}
 use Rattle.bale.specs.Definitions.Readings.{percentage_ok, fault_ok, code_where, code_of, reading_ok, note_ok}
-use Rattle.bale.specs.Definitions.Files.{file_length}
+use Rattle.bale.specs.Definitions.Files.{every_grey, shape_count, file_length}
 use Rattle.bale.specs.Definitions.Calls.{size_answer, write_refusal, write_file}
-use Rattle.bale.specs.Checks.Conditions.{ReadingRule, WriterConditions}
+use Rattle.bale.specs.Checks.Conditions.{ReadingRule, grey_bytes, WriterConditions}
 use Rattle.bale.proofs.Sections.{eqb_of}
 
 -- ---- tests that decide
@@ -50,9 +50,17 @@ unfolding note_ok
 note_decides note =
     both_say (reading_ok note.before_drier) (reading_ok note.at_press) (reading_decides note.before_drier) (reading_decides note.at_press)
 
-pub room_decides : (s : Settings) (room : ℕ) → T (leb (file_length s) room) ↔ (24 + 4 * (s.depth + 1) + 2 * total s ≤ room)
-unfolding file_length
-room_decides s room = le_decides (file_length s) room
+-- the file's length in document 01's words
+length_is : (s : Settings) → file_length s ≡ 24 + grey_bytes s + 4 * (s.depth + 1) + 2 * total s
+unfolding file_length shape_count
+length_is s = by (every_grey s)
+  where
+    by : (every : Bool) → 16 + 2 * cond every 4 6 + 4 * (s.depth + 1) + 2 * total s ≡ 24 + cond every 0 4 + 4 * (s.depth + 1) + 2 * total s
+    by true = refl
+    by false = refl
+
+pub room_decides : (s : Settings) (room : ℕ) → T (leb (file_length s) room) ↔ (24 + grey_bytes s + 4 * (s.depth + 1) + 2 * total s ≤ room)
+room_decides s room = rw (← length_is s) (le_decides (file_length s) room)
 
 -- ---- the writer
 
@@ -66,7 +74,7 @@ module _ (s : Settings) (note : Note) (levels : List ℤ) (room : ℕ) where
         decides = note_decides note;
       }
       ∷ levels_test s levels
-      ∷ record { number = 8; test = leb (file_length s) room; says = 24 + 4 * (s.depth + 1) + 2 * total s ≤ room; decides = room_decides s room }
+      ∷ record { number = 8; test = leb (file_length s) room; says = 24 + grey_bytes s + 4 * (s.depth + 1) + 2 * total s ≤ room; decides = room_decides s room }
       ∷ values_test s levels
       ∷ []
 

@@ -10,18 +10,19 @@ use Rattle.pyramid.specs.Definitions.Sizes.{total}
 use Rattle.pyramid.proofs.Sizes.{total-is}
 use Rattle.bale.specs.declared.Note.{Note}
 use Rattle.bale.specs.Definitions.Words.{le16, le32}
-use Rattle.bale.specs.Definitions.Files.{shape_section, bins_from, bins_section, readings_section, level_sections, file_of, file_length}
+use Rattle.bale.specs.Definitions.Files.{shape_section, shape_count, bins_from, bins_section, readings_section, level_sections, file_of, file_length}
 use Rattle.bale.proofs.Sections.{length_numbers}
 use Rattle.bale.proofs.LevelTrips.{length_levels}
+use Rattle.bale.proofs.Forms.{numbers_by, shape_numbers, length_shape_numbers}
 
 pub length_readings : (note : Note) → length (readings_section note) ≡ 12
 unfolding readings_section le16 le32
 length_readings note = refl
 
 module _ (s : Settings) where
-  pub length_shape : length (shape_section s) ≡ 10
-  unfolding shape_section
-  length_shape = length_numbers (s.columns ∷ s.rows ∷ s.depth ∷ s.kernel ∷ [])
+  pub length_shape : length (shape_section s) ≡ 2 + 2 * shape_count s
+  unfolding shape_section numbers_by
+  length_shape = length_numbers (shape_numbers s) ∙ rw (length_shape_numbers s) refl
 
   pub length-bins_from : (l : ℕ) → length (bins_from s l) ≡ l + 1
   unfolding bins_from

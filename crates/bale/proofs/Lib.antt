@@ -5,6 +5,7 @@ pub mod WordLists
 pub mod Sections
 pub mod LevelTrips
 pub mod ReadingTrips
+pub mod Forms
 pub mod FileLengths
 pub mod AcceptedFiles
 pub mod SettingsTrips

@@ -1,6 +1,7 @@
 -- Pieces that are put one after the other, each where the one before it ends: the sections, the file, and the levels that are read.
 -- Assumes nothing.
 use mathlib.Core.Path.{◌≡◌, refl, sym, ap, ◌∙◌}
+use mathlib.Core.Bool.{Bool, true, false, cond}
 use mathlib.Core.List.{List, [], ◌∷◌, ◌++◌, map, append_assoc, append-nil}
 use Prim.Native.Nat.{ℕ, zero, suc, ◌+◌, ◌-◌, ◌*◌, ◌≤◌, ◌<◌}
 use native.Mathlib.Numerals.{add-one}
@@ -21,12 +22,13 @@ use Rattle.bale.specs.declared.Note.{Note}
 use Rattle.bale.specs.Definitions.Words.{le16, words, index_word, word_index, u16_at, words_at, indices_at}
 use Rattle.bale.specs.Definitions.Readings.{reading_bytes}
 use Rattle.bale.specs.Definitions.Sections.{numbers_section}
-use Rattle.bale.specs.Definitions.Files.{shape_section, bins_from, bins_section, readings_section, level_section, level_sections, file_of, file_length}
+use Rattle.bale.specs.Definitions.Files.{every_grey, shape_section, shape_count, bins_from, bins_section, readings_section, level_section, level_sections, file_of, file_length}
 use Rattle.bale.specs.Definitions.Reader.{levels_place, levels_from}
 use Rattle.bale.proofs.WordLaws.{put_splice}
 use Rattle.bale.proofs.WordLists.{indices_part, length-words, words_append, length-words_at, get_or-words_at}
 use Rattle.bale.proofs.After.{levels_after}
 use Rattle.bale.proofs.LevelTrips.{length_level, length_levels, length_indices}
+use Rattle.bale.proofs.Forms.{numbers_by, shape_numbers, length_shape_numbers}
 use Rattle.bale.proofs.FileLengths.{length-bins_from}
 
 -- ---- a piece right after a piece
@@ -66,9 +68,27 @@ module _ (ns l : List ℕ) where
 
 -- ---- the sections of numbers: a count, and then these
 
-pub shape_whole : (s : Settings) {w : List ℕ} → w ≡ words (4 ∷ s.columns ∷ s.rows ∷ s.depth ∷ s.kernel ∷ []) → w ≡ shape_section s
-unfolding shape_section numbers_section words
-shape_whole s p = p
+-- the shape's count and its numbers
+pub shape_words : Settings → List ℕ
+shape_words s = shape_count s ∷ shape_numbers s
+
+pub length_shape_words : (s : Settings) → length (shape_words s) ≡ shape_count s + 1
+unfolding shape_words
+length_shape_words s = omega (arith, length_shape_numbers s)
+
+-- they are what the count says of all six
+pub shape_cut : (s : Settings) {n : ℕ} → n ≡ shape_count s → take (n + 1) (n ∷ s.columns ∷ s.rows ∷ s.depth ∷ s.kernel ∷ s.black ∷ s.white ∷ []) ≡ shape_words s
+unfolding shape_words shape_count numbers_by
+shape_cut s e = rw e (by (every_grey s))
+  where
+    by : (every : Bool)
+        → take (cond every 4 6 + 1) (cond every 4 6 ∷ s.columns ∷ s.rows ∷ s.depth ∷ s.kernel ∷ s.black ∷ s.white ∷ []) ≡ cond every 4 6 ∷ numbers_by s every
+    by true = refl
+    by false = refl
+
+pub shape_whole : (s : Settings) {w : List ℕ} → w ≡ words (shape_words s) → w ≡ shape_section s
+unfolding shape_section numbers_section words numbers_by shape_words
+shape_whole s p = p ∙ rw (length_shape_numbers s) refl
 
 pub numbers_whole : (k : ℕ) (ns : List ℕ) {count w : List ℕ} → k ≡ length ns → count ≡ le16 k → w ≡ words ns → count ++ w ≡ numbers_section ns
 unfolding numbers_section
@@ -172,7 +192,7 @@ level_put here ms at l p e = rw (p, ← e) (put_splice at (at + 2 + 2 * length h
 pub level_put_long : (ms : List ℤ) (at : ℕ) (l : List ℕ) {w : List ℕ} → w ≡ splice at (level_section ms) l → at + 2 + 2 * length ms ≤ length l → length w ≡ length l
 level_put_long ms at l p room = rw p (length-splice at (level_section ms) l (omega (arith, length_level ms)))
 
-pub sections_whole : (s : Settings) (levels : List ℤ) (l : List ℕ) {w : List ℕ} → length levels ≡ total s → levels_place s.depth + length l ≡ file_length s
+pub sections_whole : (s : Settings) (levels : List ℤ) (l : List ℕ) {w : List ℕ} → length levels ≡ total s → levels_place s + length l ≡ file_length s
     → w ≡ splice 0 (level_sections s s.depth levels) l → w ≡ level_sections s s.depth levels
 unfolding file_length
 sections_whole s levels l e long p =

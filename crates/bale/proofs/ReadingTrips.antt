@@ -7,6 +7,7 @@ use native.Mathlib.Omega.{arith}
 use lib.Dec.{T}
 use lib.ListN.{length, get_or}
 use Rattle.mathematics.proofs.Tests.{both, both_of}
+use Rattle.pyramid.specs.declared.Settings.{Settings}
 use Rattle.pyramid.specs.Definitions.Buffers.{Bytes}
 use Rattle.pyramid.proofs.Refusals.{first_nil, first_none, first_pass}
 use Rattle.bale.specs.declared.Reading.{Reading}
@@ -64,38 +65,38 @@ module _ {bytes : List ℕ} {at : ℕ} where
 
 -- ---- both
 
-module _ (bytes : List ℕ) (depth : ℕ) where
+module _ (bytes : List ℕ) (s : Settings) where
   pub readings_read : (note : Note) → HeldReading note.before_drier → HeldReading note.at_press → T (note_ok note)
-      → Stands (readings_section note) bytes (readings_place depth) → (readings_section_refusal bytes depth ≡ 0) × (note_in bytes depth ≡ note)
+      → Stands (readings_section note) bytes (readings_place s) → (readings_section_refusal bytes s ≡ 0) × (note_in bytes s ≡ note)
   unfolding note_ok readings_section readings_section_refusal note_in le16 le32
-  readings_read note held-drier held-press ok s =
+  readings_read note held-drier held-press ok st =
       let (drier-ok, press-ok) = both (reading_ok note.before_drier) (reading_ok note.at_press) ok in
       let drier = reading_bytes note.before_drier in
       let press = reading_bytes note.at_press in
-      let two = stands_back (le16 2) (drier ++ press) s in
+      let two = stands_back (le16 2) (drier ++ press) st in
       let a = probe_read note.before_drier held-drier drier-ok (stands_front drier press two) in
       let b = probe_read note.at_press held-press press-ok (stands_back drier press two) in
-      let counted : u16_at bytes (readings_place depth) ≡ 2 = word_read (omega arith) (stands_front (le16 2) (drier ++ press) s) in
-      let w : Section bytes (readings_place depth) 2 5 = record { present = omega (arith, s.room); counted = counted } in
+      let counted : u16_at bytes (readings_place s) ≡ 2 = word_read (omega arith) (stands_front (le16 2) (drier ++ press) st) in
+      let w : Section bytes (readings_place s) 2 5 = record { present = omega (arith, st.room); counted = counted } in
       let refusal : ReadingAnswer → ℕ = λ p. p.refusal in
       (first_pass _ (section_accepted w) (first_pass _ (ap refusal a) (first_pass _ (ap refusal b) first_nil)), rw (a, b))
 
-  pub readings_stand : Bytes bytes → readings_section_refusal bytes depth ≡ 0
-      → T (note_ok (note_in bytes depth)) × Stands (readings_section (note_in bytes depth)) bytes (readings_place depth)
+  pub readings_stand : Bytes bytes → readings_section_refusal bytes s ≡ 0
+      → T (note_ok (note_in bytes s)) × Stands (readings_section (note_in bytes s)) bytes (readings_place s)
   unfolding note_ok readings_section readings_section_refusal note_in le16 le32
   readings_stand all e =
       let (section, e₄) = first_none _ _ e in
       let (drier, e₅) = first_none _ _ e₄ in
       let (press, _) = first_none _ _ e₅ in
       let w = section_whole {bytes = bytes} section in
-      let room : readings_place depth + 2 + 10 ≤ length bytes = w.present in
+      let room : readings_place s + 2 + 10 ≤ length bytes = w.present in
       let (drier-ok, a) = probe_stands all (omega arith) drier in
       let (press-ok, b) = probe_stands all (omega arith) press in
-      let one = reading_bytes (probe_at bytes (drier_place depth)).reading in
-      let two = reading_bytes (probe_at bytes (press_place depth)).reading in
-      let count : Stands (le16 2) bytes (readings_place depth) =
-      subst (λ (k : ℕ). Stands (le16 k) bytes (readings_place depth)) w.counted (word_stands all (omega arith))
+      let one = reading_bytes (probe_at bytes (drier_place s)).reading in
+      let two = reading_bytes (probe_at bytes (press_place s)).reading in
+      let count : Stands (le16 2) bytes (readings_place s) =
+      subst (λ (k : ℕ). Stands (le16 k) bytes (readings_place s)) w.counted (word_stands all (omega arith))
       in (
-        both_of (reading_ok (probe_at bytes (drier_place depth)).reading) (reading_ok (probe_at bytes (press_place depth)).reading) drier-ok press-ok,
+        both_of (reading_ok (probe_at bytes (drier_place s)).reading) (reading_ok (probe_at bytes (press_place s)).reading) drier-ok press-ok,
         stands_join (le16 2) (one ++ two) count (stands_join one two a b),
       )

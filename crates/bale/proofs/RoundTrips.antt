@@ -15,8 +15,8 @@ use Rattle.pyramid.proofs.Refusals.{first_nil, first_none, first_pass, unless_ho
 use Rattle.pyramid.proofs.Sizes.{total-is, total_most}
 use Rattle.pyramid.proofs.CheckedLevels.{checked, levels_checked}
 use Rattle.bale.specs.declared.Note.{Note}
-use Rattle.bale.specs.Definitions.Files.{shape_section, bins_section, readings_section, level_sections, file_of, file_length}
-use Rattle.bale.specs.Definitions.Reader.{depth_in, bins_place, readings_place, levels_place, settings_in, note_in, levels_from, levels_in, shape_section_refusal, bins_section_refusal, readings_section_refusal, level_sections_refusal, body_refusal}
+use Rattle.bale.specs.Definitions.Files.{shape_section, shape_count, bins_section, readings_section, level_sections, file_of, file_length}
+use Rattle.bale.specs.Definitions.Reader.{count_in, depth_in, bins_place, readings_place, levels_place, settings_in, note_in, levels_from, levels_in, shape_section_refusal, bins_section_refusal, readings_section_refusal, level_sections_refusal, body_refusal}
 use Rattle.bale.specs.Definitions.Calls.{write_refusal, read_refusal, read_file}
 use Rattle.bale.specs.Theorems.RoundTrips.{Held, WrittenThenRead, ReadThenWritten}
 use Rattle.bale.proofs.Stands.{Stands, stands_all, stands_whole, stands_front, stands_back, stands_join}
@@ -26,15 +26,16 @@ use Rattle.bale.proofs.ReadingTrips.{readings_read, readings_stand}
 use Rattle.bale.proofs.FileLengths.{length_shape, length_bins, length_readings, length_file}
 use Rattle.bale.proofs.AcceptedFiles.{AcceptedWriting, accepted_writing, writing_accepted, AcceptedFile, accepted_file}
 use Rattle.bale.proofs.Answers.{writing_is, reading_is}
-use Rattle.bale.proofs.SettingsTrips.{ReadSettings, settings_read, shape_stands, bins_stand}
+use Rattle.bale.proofs.SettingsTrips.{ReadSettings, settings_read, bins_stand}
+use Rattle.bale.proofs.Forms.{count_most, shape_stands}
 
 -- ---- the sections of a file, at their places
 
 pub record Sections (s : Settings) (note : Note) (levels : List ℤ) (bytes : List ℕ) : Type 0 where
   pub shape : Stands (shape_section s) bytes 0
-  pub bins : Stands (bins_section s) bytes bins_place
-  pub readings : Stands (readings_section note) bytes (readings_place s.depth)
-  pub leveled : Stands (level_sections s s.depth levels) bytes (levels_place s.depth)
+  pub bins : Stands (bins_section s) bytes (bins_place s)
+  pub readings : Stands (readings_section note) bytes (readings_place s)
+  pub leveled : Stands (level_sections s s.depth levels) bytes (levels_place s)
 
 module _ (s : Settings) (note : Note) (levels : List ℤ) where
   abbrev after_bins : List ℕ
@@ -43,13 +44,13 @@ module _ (s : Settings) (note : Note) (levels : List ℤ) where
   abbrev after_shape : List ℕ
   after_shape = bins_section s ++ after_bins
 
-  at_bins : 0 + length (shape_section s) ≡ bins_place
+  at_bins : 0 + length (shape_section s) ≡ bins_place s
   at_bins = omega (arith, length_shape s)
 
-  at_readings : bins_place + length (bins_section s) ≡ readings_place s.depth
+  at_readings : bins_place s + length (bins_section s) ≡ readings_place s
   at_readings = omega (arith, length_bins s)
 
-  at_levels : readings_place s.depth + length (readings_section note) ≡ levels_place s.depth
+  at_levels : readings_place s + length (readings_section note) ≡ levels_place s
   at_levels = omega (arith, length_readings note)
 
   module _ {bytes : List ℕ} where
@@ -77,9 +78,9 @@ module _ (s : Settings) (note : Note) (levels : List ℤ) where
 
 -- ---- written, then read
 
-size_most : (s : Settings) → total s ≤ 22359 → s.depth ≤ 6 → file_length s ≤ 44770
+size_most : (s : Settings) → total s ≤ 22359 → s.depth ≤ 6 → file_length s ≤ 44774
 unfolding file_length
-size_most s h k = omega arith
+size_most s h k = omega (arith, (count_most s).1)
 
 depth_is : (s : Settings) (bytes : List ℕ) → settings_in bytes ≡ s → depth_in bytes ≡ s.depth
 unfolding settings_in
@@ -95,13 +96,13 @@ module _ (s : Settings) (note : Note) (levels : List ℤ) (room : ℕ) (held : H
   settings : ReadSettings s file
   settings = settings_read file a.law (settings_parts s a.settings).1 held.seven parts.shape parts.bins
 
-  noted : (readings_section_refusal file s.depth ≡ 0) × (note_in file s.depth ≡ note)
-  noted = readings_read file s.depth note held.drier held.press a.noted parts.readings
+  noted : (readings_section_refusal file s ≡ 0) × (note_in file s ≡ note)
+  noted = readings_read file s note held.drier held.press a.noted parts.readings
 
   long : length file ≡ file_length s
   long = length_file s note levels a.long
 
-  leveled : (level_sections_refusal file s s.depth (levels_place s.depth) ≡ 0) × (levels_from file s s.depth (levels_place s.depth) ≡ levels)
+  leveled : (level_sections_refusal file s s.depth (levels_place s) ≡ 0) × (levels_from file s s.depth (levels_place s) ≡ levels)
   unfolding file_length
   leveled =
       let t : T (checked s s.depth levels) = subst T (levels_checked s levels a.long) a.valued in
@@ -109,7 +110,7 @@ module _ (s : Settings) (note : Note) (levels : List ℤ) (room : ℕ) (held : H
       let nodes = total-is s in
       let full = a.long ∙ nodes in
       let sections = length_levels s s.depth levels full in
-      levels_read s file s.depth (levels_place s.depth) levels (omega arith) full (shorts levels held.short) t parts.leveled (omega (arith, long))
+      levels_read s file s.depth (levels_place s) levels (omega arith) full (shorts levels held.short) t parts.leveled (omega (arith, long))
 
   bins_accepted : bins_section_refusal file ≡ 0
   unfolding bins_section_refusal
@@ -120,7 +121,9 @@ module _ (s : Settings) (note : Note) (levels : List ℤ) (room : ℕ) (held : H
   shape_accepted : shape_section_refusal file ≡ 0
   unfolding shape_section_refusal
   shape_accepted =
-      rw settings.is (first_pass _ (section_accepted settings.shape) (first_pass _ (settings_parts s a.settings).0 first_nil))
+      first_pass _ (section_accepted settings.shape.section)
+      (rw settings.is
+      (first_pass _ (unless_holds (eqb (count_in file) (shape_count s)) 10 (eqb_of settings.shape.count)) (first_pass _ (settings_parts s a.settings).0 first_nil)))
 
   body_accepted : body_refusal file ≡ 0
   unfolding body_refusal
@@ -159,19 +162,20 @@ module _ (bytes : List ℕ) (places : ℕ) (all : Bytes bytes) (e : read_refusal
 
   -- what the reader has looked at
   record Looked : Type 0 where
-    shape_section_lem : Section bytes 0 4 2
+    shape_section_lem : Section bytes 0 (count_in bytes) 2
     shape : shape_refusal found ≡ 0
-    bins_section_lem : Section bytes bins_place (depth + 1) 2
+    bins_section_lem : Section bytes (bins_place found) (depth + 1) 2
     bins : T (bins_ok found)
-    readings : readings_section_refusal bytes depth ≡ 0
-    leveled : level_sections_refusal bytes found depth (levels_place depth) ≡ 0
+    readings : readings_section_refusal bytes found ≡ 0
+    leveled : level_sections_refusal bytes found depth (levels_place found) ≡ 0
 
   looked : Looked
   unfolding read_refusal shape_section_refusal body_refusal bins_section_refusal
   looked =
       let (shape, e₆) = first_none _ _ e in
       let (_, body) = first_none _ _ e₆ in
-      let (section, e₁) = first_none _ _ shape in
+      let (section, e₁₀) = first_none _ _ shape in
+      let (_, e₁) = first_none _ _ e₁₀ in
       let (bins, e₄) = first_none _ _ (first_none _ _ body).0 in
       let (bins_section_lem, e₃) = first_none _ _ bins in
       let (readings, e₉) = first_none _ _ e₄ in
@@ -187,39 +191,39 @@ module _ (bytes : List ℕ) (places : ℕ) (all : Bytes bytes) (e : read_refusal
   whole : AcceptedFile bytes places
   whole = accepted_file bytes places e
 
-  written : Written found bytes depth (levels_place depth)
-  written = levels_stand found bytes all depth (levels_place depth) looked.leveled
+  written : Written found bytes depth (levels_place found)
+  written = levels_stand found bytes all depth (levels_place found) looked.leveled
 
-  standing : Sections found (note_in bytes depth) (levels_in bytes) bytes
+  standing : Sections found (note_in bytes found) (levels_in bytes) bytes
   unfolding settings_in
   standing =
       record {
-        shape = shape_stands bytes all looked.shape_section_lem;
-        bins = bins_stand bytes all whole.shaped.deep looked.bins_section_lem;
-        readings = (readings_stand bytes depth all looked.readings).1;
+        shape = shape_stands bytes all looked.shape_section_lem whole.counted;
+        bins = bins_stand bytes all whole.shaped.deep whole.counted looked.bins_section_lem;
+        readings = (readings_stand bytes found all looked.readings).1;
         leveled = written.stands;
       }
 
   found_long : length (levels_in bytes) ≡ total found
   unfolding settings_in
-  found_long = length_from found bytes depth (levels_place depth) ∙ sym (total-is found)
+  found_long = length_from found bytes depth (levels_place found) ∙ sym (total-is found)
 
   file_long : file_length found ≡ length bytes
   unfolding file_length
   file_long = omega (arith, whole.whole, total-is found)
 
-  again : file_of found (note_in bytes depth) (levels_in bytes) ≡ bytes
+  again : file_of found (note_in bytes found) (levels_in bytes) ≡ bytes
   again =
-      stands_whole (together found (note_in bytes depth) (levels_in bytes) standing)
-      (length_file found (note_in bytes depth) (levels_in bytes) found_long ∙ file_long)
+      stands_whole (together found (note_in bytes found) (levels_in bytes) standing)
+      (length_file found (note_in bytes found) (levels_in bytes) found_long ∙ file_long)
 
-  accepted_again : (room : ℕ) → length bytes ≤ room → write_refusal found (note_in bytes depth) (levels_in bytes) room ≡ 0
+  accepted_again : (room : ℕ) → length bytes ≤ room → write_refusal found (note_in bytes found) (levels_in bytes) room ≡ 0
   unfolding settings_in
   accepted_again room h =
       let settings : settings_refusal found ≡ 0 = settings_bins found looked.shape ∙ unless_holds (bins_ok found) 3 looked.bins in
       let lawful : T (checked found found.depth (levels_in bytes)) = written.lawful in
       let values : T (values_ok found (levels_in bytes)) = subst T (sym (levels_checked found (levels_in bytes) found_long)) lawful in
-      writing_accepted found (note_in bytes depth) (levels_in bytes) room settings (readings_stand bytes depth all looked.readings).0 found_long
+      writing_accepted found (note_in bytes found) (levels_in bytes) room settings (readings_stand bytes found all looked.readings).0 found_long
       (omega (arith, file_long)) values
 
 pub read_then_written : ReadThenWritten
@@ -228,6 +232,6 @@ read_then_written bytes lent all e =
       same = rw (reading_is bytes lent e) (again bytes (length lent) all e);
       written = λ file h.
           rw (reading_is bytes lent e)
-          (writing_is (settings_in bytes) (note_in bytes (depth_in bytes)) (levels_in bytes) file (accepted_again bytes (length lent) all e (length file) h)
+          (writing_is (settings_in bytes) (note_in bytes (settings_in bytes)) (levels_in bytes) file (accepted_again bytes (length lent) all e (length file) h)
           ∙ rw (file_long bytes (length lent) all e, again bytes (length lent) all e));
     }

@@ -1,6 +1,6 @@
 -- The shape and bins sections: written and read, the settings are the same; read and written, the bytes are. Assumes nothing.
-use mathlib.Core.Path.{◌≡◌, refl, sym, ap, ap₂, ◌∙◌}
-use mathlib.Core.List.{List, [], ◌∷◌}
+use mathlib.Core.Path.{◌≡◌, refl, sym, ap, ap₂, ◌∙◌, subst}
+use mathlib.Core.List.{List, [], ◌∷◌, ◌++◌}
 use Prim.Native.Nat.{ℕ, zero, suc, ◌+◌, ◌-◌, ◌*◌, ◌≤◌, ◌<◌}
 use native.Mathlib.Decide.{dec_le}
 use native.Mathlib.Numerals.{add-one}
@@ -18,12 +18,13 @@ use Rattle.pyramid.specs.Inner.Lawful.{Lawful}
 use Rattle.pyramid.proofs.Lawful.{slot_empty}
 use Rattle.bale.specs.Definitions.Words.{le16, words, u16_at, words_at}
 use Rattle.bale.specs.Definitions.Sections.{numbers_section}
-use Rattle.bale.specs.Definitions.Files.{shape_section, bins_from, bins_section}
-use Rattle.bale.specs.Definitions.Reader.{depth_in, bins_place, slot_in, settings_in}
+use Rattle.bale.specs.Definitions.Files.{shape_section, shape_count, bins_from, bins_section}
+use Rattle.bale.specs.Definitions.Reader.{after_shape, bins_place, count_in, depth_in, slot_in, settings_in}
 use Rattle.bale.proofs.Stands.{Stands}
-use Rattle.bale.proofs.WordLists.{Short, get_or-words_at}
+use Rattle.bale.proofs.WordLists.{Short, length-words_at, get_or-words_at}
 use Rattle.bale.proofs.Sections.{Section, numbers_read, numbers_stand}
 use Rattle.bale.proofs.FileLengths.{length-bins_from}
+use Rattle.bale.proofs.Forms.{ReadShape, shape_read}
 
 -- ---- the bins, level N first
 
@@ -44,10 +45,14 @@ module _ (s : Settings) where
   short_bins small (suc n) h zero = small (suc n) h
   short_bins small (suc n) h (suc i) = short_bins small n (omega arith) i
 
+  bins_written : {ns : List ℕ} {n : ℕ} → bins_from s s.depth ≡ ns → length ns ≡ n → bins_section s ≡ le16 n ++ words ns
+  unfolding bins_section numbers_section
+  bins_written e long = rw (e, long) refl
+
 -- ---- the slots
 
 module _ (bytes : List ℕ) (depth : ℕ) where
-  slot_below : (l : ℕ) → l ≤ depth → slot_in bytes depth l ≡ u16_at bytes (12 + 2 * (depth - l))
+  slot_below : (l : ℕ) → l ≤ depth → slot_in bytes depth l ≡ u16_at bytes (after_shape (count_in bytes) + 2 + 2 * (depth - l))
   unfolding slot_in
   slot_below l h = rw (le-leb l depth h)
 
@@ -57,29 +62,14 @@ module _ (bytes : List ℕ) (depth : ℕ) where
 
 -- ---- written, then read
 
-four_short : (a b c d : ℕ) → a < 65536 → b < 65536 → c < 65536 → d < 65536 → Short (a ∷ b ∷ c ∷ d ∷ [])
-four_short a b c d h i j k zero = h
-four_short a b c d h i j k (suc zero) = i
-four_short a b c d h i j k (suc (suc zero)) = j
-four_short a b c d h i j k (suc (suc (suc zero))) = k
-four_short a b c d h i j k (suc (suc (suc (suc n)))) = omega arith
-
 pub record ReadSettings (s : Settings) (bytes : List ℕ) : Type 0 where
   pub is : settings_in bytes ≡ s
-  pub shape : Section bytes 0 4 2
-  pub bins : Section bytes bins_place (s.depth + 1) 2
+  pub shape : ReadShape bytes s
+  pub bins : Section bytes (bins_place s) (s.depth + 1) 2
 
 module _ {s : Settings} (bytes : List ℕ) (law : Lawful s) where
-  shape_read : Stands (shape_section s) bytes 0 → Section bytes 0 4 2 × (words_at bytes 2 4 ≡ s.columns ∷ s.rows ∷ s.depth ∷ s.kernel ∷ [])
-  unfolding shape_section
-  shape_read st =
-      let f = law.shaped in
-      numbers_read (s.columns ∷ s.rows ∷ s.depth ∷ s.kernel ∷ []) (omega arith)
-      (four_short s.columns s.rows s.depth s.kernel (omega (arith, f.across.most)) (omega (arith, f.along.most)) (omega (arith, f.deep))
-      (omega (arith, f.kernel.most)))
-      st
-
-  bins_read : Stands (bins_section s) bytes bins_place → Section bytes bins_place (s.depth + 1) 2 × (words_at bytes 12 (s.depth + 1) ≡ bins_from s s.depth)
+  bins_read : Stands (bins_section s) bytes (bins_place s)
+      → Section bytes (bins_place s) (s.depth + 1) 2 × (words_at bytes (bins_place s + 2) (s.depth + 1) ≡ bins_from s s.depth)
   unfolding bins_section
   bins_read st =
       let n = length-bins_from s s.depth in
@@ -89,56 +79,57 @@ module _ {s : Settings} (bytes : List ℕ) (law : Lawful s) where
       in
       (rw n at w, rw n at e)
 
-  slots_read : T (bins_ok s) → length s.bins ≡ 7 → words_at bytes 12 (s.depth + 1) ≡ bins_from s s.depth → tabulate 7 (slot_in bytes s.depth) ≡ s.bins
-  slots_read ok seven e =
+  slots_read : T (bins_ok s) → length s.bins ≡ 7 → count_in bytes ≡ shape_count s → words_at bytes (bins_place s + 2) (s.depth + 1) ≡ bins_from s s.depth
+      → tabulate 7 (slot_in bytes s.depth) ≡ s.bins
+  slots_read ok seven count e =
       let n = length-tabulate 7 (slot_in bytes s.depth) in
       ext_get_or 0 _ _ (n ∙ sym seven) (λ l h. get_or-tabulate 7 (slot_in bytes s.depth) 0 l (omega arith) ∙ slot l (omega arith) (dec_le l s.depth))
     where
       slot : (l : ℕ) → l < 7 → Dec (l ≤ s.depth) → slot_in bytes s.depth l ≡ bin s l
       slot l h (yes k) =
           slot_below bytes s.depth l k
-          ∙ sym (get_or-words_at bytes 12 (s.depth + 1) (s.depth - l) (omega arith))
+          ∙ rw count (sym (get_or-words_at bytes (bins_place s + 2) (s.depth + 1) (s.depth - l) (omega arith)))
           ∙ ap (λ (ns : List ℕ). get_or ns (s.depth - l) 0) e
           ∙ get_or_bins s s.depth l k
       slot l h (no k) = slot_above bytes s.depth l (omega arith) ∙ sym (slot_empty s ok l h (omega arith))
 
-  pub settings_read : T (bins_ok s) → length s.bins ≡ 7 → Stands (shape_section s) bytes 0 → Stands (bins_section s) bytes bins_place → ReadSettings s bytes
-  unfolding settings_in words_at
+  pub settings_read : T (bins_ok s) → length s.bins ≡ 7 → Stands (shape_section s) bytes 0 → Stands (bins_section s) bytes (bins_place s) → ReadSettings s bytes
+  unfolding settings_in
   settings_read ok seven st₁ st₂ =
-      let (shape, four) = shape_read st₁ in
+      let shape = shape_read bytes s law.shaped st₁ in
       let (bins, down) = bins_read st₂ in
-      let c : u16_at bytes 2 ≡ s.columns = ap (λ (ns : List ℕ). get_or ns 0 0) four in
-      let r : u16_at bytes 4 ≡ s.rows = ap (λ (ns : List ℕ). get_or ns 1 0) four in
-      let n : depth_in bytes ≡ s.depth = ap (λ (ns : List ℕ). get_or ns 2 0) four in
-      let k : u16_at bytes 8 ≡ s.kernel = ap (λ (ns : List ℕ). get_or ns 3 0) four in
-      record { is = rw (c, r, n, k, slots_read ok seven down); shape = shape; bins = bins }
+      record {
+        is = rw (shape.columns, shape.rows, shape.depth, shape.kernel, shape.black, shape.white, slots_read ok seven shape.count down);
+        shape = shape;
+        bins = bins;
+      }
 
 -- ---- read, then written
 
-module _ (bytes : List ℕ) (all : Bytes bytes) where
-  pub shape_stands : Section bytes 0 4 2 → Stands (shape_section (settings_in bytes)) bytes 0
-  unfolding shape_section numbers_section settings_in words_at
-  shape_stands w = numbers_stand all w
+module _ (bytes : List ℕ) (all : Bytes bytes) (deep : depth_in bytes ≤ 6) (counted : count_in bytes ≡ shape_count (settings_in bytes)) where
+  abbrev at : ℕ
+  at = bins_place (settings_in bytes) + 2
 
-  module _ (deep : depth_in bytes ≤ 6) where
-    bin-is : (l : ℕ) → l ≤ depth_in bytes → bin (settings_in bytes) l ≡ u16_at bytes (12 + 2 * (depth_in bytes - l))
-    unfolding settings_in
-    bin-is l h = get_or-tabulate 7 (slot_in bytes (depth_in bytes)) 0 l (omega arith) ∙ slot_below bytes (depth_in bytes) l h
+  bins_in : (settings_in bytes).bins ≡ tabulate 7 (slot_in bytes (depth_in bytes))
+  unfolding settings_in
+  bins_in = refl
 
-    bins_are : (l : ℕ) → l ≤ depth_in bytes → bins_from (settings_in bytes) l ≡ words_at bytes (12 + 2 * (depth_in bytes - l)) (suc l)
-    unfolding bins_from words_at
-    bins_are zero h = ap (λ (n : ℕ). n ∷ []) (bin-is 0 h)
-    bins_are (suc l) h =
-        let e : 12 + 2 * (depth_in bytes - l) ≡ 12 + 2 * (depth_in bytes - suc l) + 2 = omega arith in
-        ap₂ ◌∷◌ (bin-is (suc l) h) (bins_are l (omega arith) ∙ ap (λ (p : ℕ). words_at bytes p (suc l)) e)
+  bin-is : (l : ℕ) → l ≤ depth_in bytes → bin (settings_in bytes) l ≡ u16_at bytes (at + 2 * (depth_in bytes - l))
+  bin-is l h =
+      ap (λ (bins : List ℕ). get_or bins l 0) bins_in ∙ get_or-tabulate 7 (slot_in bytes (depth_in bytes)) 0 l (omega arith) ∙ slot_below bytes (depth_in bytes) l h
+      ∙ ap (λ (n : ℕ). u16_at bytes (after_shape n + 2 + 2 * (depth_in bytes - l))) counted
 
-    pub bins_stand : Section bytes bins_place (depth_in bytes + 1) 2 → Stands (bins_section (settings_in bytes)) bytes bins_place
-    unfolding bins_section numbers_section le16 bins_from words
-    bins_stand w =
-        let depth : (settings_in bytes).depth ≡ depth_in bytes = (unfold settings_in in refl) in
-        let z : 12 + 2 * (depth_in bytes - depth_in bytes) ≡ 12 = omega arith in
-        let down : bins_from (settings_in bytes) (depth_in bytes) ≡ words_at bytes 12 (depth_in bytes + 1) =
-        bins_are (depth_in bytes) (omega arith) ∙ rw (z, add-one)
-        in
-        let n : length (bins_from (settings_in bytes) (depth_in bytes)) ≡ depth_in bytes + 1 = length-bins_from (settings_in bytes) (depth_in bytes) in
-        rw (depth, n, down) (numbers_stand all w)
+  bins_are : (l : ℕ) → l ≤ depth_in bytes → bins_from (settings_in bytes) l ≡ words_at bytes (at + 2 * (depth_in bytes - l)) (suc l)
+  unfolding bins_from words_at
+  bins_are zero h = ap (λ (n : ℕ). n ∷ []) (bin-is 0 h)
+  bins_are (suc l) h =
+      let e : at + 2 * (depth_in bytes - l) ≡ at + 2 * (depth_in bytes - suc l) + 2 = omega arith in
+      ap₂ ◌∷◌ (bin-is (suc l) h) (bins_are l (omega arith) ∙ ap (λ (p : ℕ). words_at bytes p (suc l)) e)
+
+  pub bins_stand : Section bytes (bins_place (settings_in bytes)) (depth_in bytes + 1) 2 → Stands (bins_section (settings_in bytes)) bytes (bins_place (settings_in bytes))
+  bins_stand w =
+      let s = settings_in bytes in
+      let depth : s.depth ≡ depth_in bytes = (unfold settings_in in refl) in
+      let z : at + 2 * (depth_in bytes - depth_in bytes) ≡ at = omega arith in
+      let down : bins_from s s.depth ≡ words_at bytes at (depth_in bytes + 1) = ap (bins_from s) depth ∙ bins_are (depth_in bytes) (omega arith) ∙ rw (z, add-one) in
+      subst (λ (piece : List ℕ). Stands piece bytes (bins_place s)) (sym (bins_written s down (length-words_at bytes at (depth_in bytes + 1)))) (numbers_stand all w)

@@ -6,23 +6,25 @@ use mathlib.Core.List.{List, [], ◌∷◌}
 use Prim.Native.Nat.{ℕ, zero, suc, ◌+◌, ◌*◌}
 use native.Mathlib.Omega.{arith}
 use borrow.Author.Tests.{ne_eqb}
-use lib.Dec.{T, eqb}
+use lib.Dec.{T, eqb, eqb→eq}
 use lib.ListN.{get_or}
 use Rattle.pyramid.specs.declared.Settings.{Settings}
 use Rattle.pyramid.specs.Definitions.Sizes.{nodes_at, total}
-use Rattle.pyramid.specs.Definitions.Refusals.{first, shape_refusal}
+use Rattle.pyramid.specs.Definitions.Refusals.{unless, first, shape_refusal}
 use Rattle.pyramid.specs.Checks.Numbers.{one_of, Answers, shape_numbers}
-use Rattle.pyramid.proofs.Refusals.{first_nil, first_skip, first_stop, first_here, first-last, first_between, answers_fails, unless_holds, unless-more, unless_elim, first_elim, last_elim}
+use Rattle.pyramid.proofs.Refusals.{first_nil, first_skip, first_stop, first_here, first-last, first_between, first_third, answers_fails, unless_none, unless_holds, unless-more, unless_elim, first_elim, last_elim}
 use Rattle.pyramid.proofs.Rules.{one_between, one_before, one_after, one_apart, answered}
 use Rattle.pyramid.proofs.Conditions.{shape_tests, shape_looks}
 use Rattle.bale.specs.Definitions.Words.{u32_at}
 use Rattle.bale.specs.Definitions.Readings.{probe_where, decode}
 use Rattle.bale.specs.Definitions.Sections.{section_refusal}
-use Rattle.bale.specs.Definitions.Reader.{settings_in, probe_at, shape_section_refusal, bins_section_refusal, readings_section_refusal, level_section_refusal, level_sections_refusal, body_refusal}
+use Rattle.bale.specs.Definitions.Files.{shape_count}
+use Rattle.bale.specs.Definitions.Reader.{count_in, settings_in, probe_at, shape_section_refusal, bins_section_refusal, readings_section_refusal, level_section_refusal, level_sections_refusal, body_refusal}
 use Rattle.bale.specs.Definitions.Calls.{read_refusal, check_refusal}
 use Rattle.bale.specs.Checks.Numbers.{section_numbers, check_numbers, read_numbers}
 use Rattle.bale.specs.Checks.Totality.{ShapeGives, ReadingIsTotal}
 use Rattle.bale.proofs.Sections.{Section, eqb_of, section_accepted, section_whole}
+use Rattle.bale.proofs.Forms.{count_taken}
 
 module _ (bytes : List ℕ) where
   abbrev P : ℕ → Type 0
@@ -47,9 +49,9 @@ module _ (bytes : List ℕ) where
   unfolding bins_section_refusal
   bins_section_lem = first_elim P tt _ _ (section _ _ _) (last_elim P tt _ (unless_elim P tt _ 3 tt))
 
-  readings_section_lem : (depth : ℕ) → P (readings_section_refusal bytes depth)
+  readings_section_lem : (s : Settings) → P (readings_section_refusal bytes s)
   unfolding readings_section_refusal
-  readings_section_lem depth = first_elim P tt _ _ (section _ _ _) (first_elim P tt _ _ (probe _) (last_elim P tt _ (probe _)))
+  readings_section_lem s = first_elim P tt _ _ (section _ _ _) (first_elim P tt _ _ (probe _) (last_elim P tt _ (probe _)))
 
   level : (s : Settings) (l at : ℕ) → P (level_section_refusal bytes s l at)
   unfolding level_section_refusal
@@ -77,7 +79,9 @@ module _ (bytes : List ℕ) where
 
   shape_section_lem : Q (shape_section_refusal bytes)
   unfolding shape_section_refusal
-  shape_section_lem = first_elim Q tt _ _ (later (section_refusal bytes 0 4 2) (section 0 4 2)) (last_elim Q tt _ (shape (settings_in bytes)))
+  shape_section_lem =
+      first_elim Q tt _ _ (later (section_refusal bytes 0 (count_in bytes) 2) (section 0 (count_in bytes) 2))
+      (first_elim Q tt _ _ (unless_elim Q tt _ 10 tt) (last_elim Q tt _ (shape (settings_in bytes))))
 
   checked : Q (check_refusal bytes)
   unfolding check_refusal
@@ -124,15 +128,19 @@ module _ (bytes : List ℕ) where
     section_gives : shape_section_refusal bytes ≡ n → ShapeGives bytes n
     unfolding shape_section_refusal
     section_gives e =
-        let (section-passes, gives) = first_between (section_refusal bytes 0 4 2) _ [] (other _ (section 0 4 2)) (λ p. not_none (sym first_nil ∙ p)) e in
-        let w : Section bytes 0 4 2 = section_whole section-passes in
-        record { whole = omega (arith, w.present); counted = w.counted; gives = gives }
+        let m = other (section_refusal bytes 0 (count_in bytes) 2) (section 0 (count_in bytes) 2) in
+        let miscounted : unless (eqb (count_in bytes) (shape_count (settings_in bytes))) 10 ≢ n = other _ (unless_elim P tt _ 10 tt) in
+        let (passes, counts, gives) = first_third (section_refusal bytes 0 (count_in bytes) 2) (unless (eqb (count_in bytes) (shape_count (settings_in bytes))) 10) _ [] m miscounted (λ p. not_none (sym first_nil ∙ p)) e in
+        let w : Section bytes 0 (count_in bytes) 2 = section_whole passes in
+        let same : count_in bytes ≡ shape_count (settings_in bytes) = eqb→eq _ _ (unless_none (eqb (count_in bytes) (shape_count (settings_in bytes))) 9 counts) in
+        record { whole = omega (arith, w.present, same); counted = w.counted ∙ same; gives = gives }
 
     gives_section : ShapeGives bytes n → shape_section_refusal bytes ≡ n
     unfolding shape_section_refusal
     gives_section g =
-        let w : Section bytes 0 4 2 = record { present = omega (arith, g.whole); counted = g.counted } in
-        first_skip _ _ (section_accepted w) ∙ first-last _ ∙ g.gives
+        let same : count_in bytes ≡ shape_count (settings_in bytes) = count_taken bytes (settings_in bytes) g.counted in
+        let w : Section bytes 0 (count_in bytes) 2 = record { present = omega (arith, g.whole, same); counted = g.counted ∙ sym same } in
+        first_skip _ _ (section_accepted w) ∙ first_skip _ _ (unless_holds (eqb (count_in bytes) (shape_count (settings_in bytes))) 10 (eqb_of same)) ∙ first-last _ ∙ g.gives
 
     -- whatever is looked for after the shape section
     after_section : (later : List ℕ) → first later ≢ n → (first (shape_section_refusal bytes ∷ later) ≡ n) ↔ ShapeGives bytes n

@@ -43,7 +43,7 @@ impl ShapedFile<'_> {
     pub fn check_bins(&self) -> Result<(), Refusal>
         ensures { result ≡ outcome (bins_section_refusal self.now.bytes.now) tt }
     {
-        let section = words::rest(self.bytes, places::BINS);
+        let section = words::rest(self.bytes, places::bins(self.shape.settings));
         check_section(section, self.shape.settings.depth + 1, 2)?;
         self.shape.lawful()?;
         Ok(())
@@ -51,14 +51,14 @@ impl ShapedFile<'_> {
 
     // The readings, or the first rule that their section breaks.
     pub fn note(&self) -> Result<Note, Refusal>
-        ensures { result ≡ outcome (readings_section_refusal self.now.bytes.now self.now.shape.settings.depth)
-            (note_in self.now.bytes.now self.now.shape.settings.depth) }
+        ensures { result ≡ outcome (readings_section_refusal self.now.bytes.now self.now.shape.settings)
+            (note_in self.now.bytes.now self.now.shape.settings) }
     {
-        let depth = self.shape.settings.depth;
-        let section = words::rest(self.bytes, places::readings(depth));
+        let s = self.shape.settings;
+        let section = words::rest(self.bytes, places::readings(s));
         check_section(section, 2, 5)?;
-        let drier = words::rest(self.bytes, places::drier(depth));
-        let press = words::rest(self.bytes, places::press(depth));
+        let drier = words::rest(self.bytes, places::drier(s));
+        let press = words::rest(self.bytes, places::press(s));
         let before_drier = finding::reading_in(drier)?;
         let at_press = finding::reading_in(press)?;
         Ok(Note {
@@ -86,11 +86,11 @@ impl ShapedFile<'_> {
     // The sections of all levels, and whether the file ends there.
     pub fn check_levels(&self) -> Result<(), Refusal>
         ensures { result ≡ outcome (level_sections_refusal self.now.bytes.now self.now.shape.settings self.now.shape.settings.depth
-            (levels_place self.now.shape.settings.depth)) tt }
+            (levels_place self.now.shape.settings)) tt }
     {
-        let depth = self.shape.settings.depth;
-        let mut left = words::rest(self.bytes, places::levels(depth));
-        for level in (0..=depth).rev() {
+        let s = self.shape.settings;
+        let mut left = words::rest(self.bytes, places::levels(s));
+        for level in (0..=s.depth).rev() {
             left = self.check_level(level, left)?;
         }
         if !left.is_empty() {

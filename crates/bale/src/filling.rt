@@ -26,10 +26,10 @@ impl ShapedFile<'_> {
         requires { read_refusal self.now.bytes.now (length levels.old) ≡ 0 }
         ensures { levels.new ≡ levels_in self.now.bytes.now }
     {
-        let depth = self.shape.settings.depth;
-        let mut left = words::rest(self.bytes, places::levels(depth));
+        let s = self.shape.settings;
+        let mut left = words::rest(self.bytes, places::levels(s));
         let mut from = 0;
-        for level in (0..=depth).rev() {
+        for level in (0..=s.depth).rev() {
             let nodes = self.shape.level_nodes(level) as usize;
             let (section, below) = left.split_at(2 + 2 * nodes);
             fill_indices(&section[2..], &mut levels[from..from + nodes]);

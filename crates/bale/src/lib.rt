@@ -65,7 +65,7 @@ pub fn coded_reading(kind: u8, number: u32) -> Result<Reading, Refusal>
     Reading::try_from(Code { kind, number })
 }
 
-// The size of a file of settings. Refused: 1, 13, 14, 15, 2, 3.
+// The size of a file of settings. Refused: 1, 13, 14, 15, 2, 19, 3.
 pub fn file_size(s: Settings) -> Result<usize, Refusal>
     ensures { result ≡ outcome (size_answer s).refusal (size_answer s).size }
 {
@@ -73,7 +73,7 @@ pub fn file_size(s: Settings) -> Result<usize, Refusal>
     Ok(writing::file_length(lawful.shape()))
 }
 
-// Writes a file and answers its size. Refused: 1, 13, 14, 15, 2, 3, 4, 6, 8, 11.
+// Writes a file and answers its size. Refused: 1, 13, 14, 15, 2, 19, 3, 4, 6, 8, 11.
 pub fn write_file(
     s: Settings,
     note: Note,
@@ -90,7 +90,7 @@ pub fn write_file(
 }
 
 // Reads a file: its settings and readings in the answer, its indices in the level buffer.
-// Refused in file order: 9, 10, 1, 13, 14, 15, 2, 6, 3, 4, 11, 12.
+// Refused in file order: 9, 10, 1, 13, 14, 15, 2, 19, 6, 3, 4, 11, 12.
 pub fn read_file(file: &[u8], levels: &mut [i16]) -> Result<Bale, Refusal>
     ensures value { result ≡ outcome (read_file file.now levels.old).answer.refusal
         (bale_in (read_file file.now levels.old).answer) }

@@ -1,6 +1,6 @@
 // The sections of a file, each in the part of the writer's buffer that is its own (document 01, "Bale file").
 // Kept: each function asks that its part is as long as what it writes there. Of the bins and the levels the settings say how long that is,
-// so that no type does. The shape's 10 bytes and the readings' 12 could be `&mut [u8; N]`, but `put_file` has slices of them, cut at their
+// so that no type does. The readings' 12 bytes could be `&mut [u8; N]`, but `put_file` has slices of them, cut at their
 // places: `try_into` and `split_first_chunk_mut` answer a Result and an Option, each with a case that never comes, for a clause of one line.
 // As arrays that are answered and then copied they would be written otherwise than the two sections beside them, in no fewer lines.
 // Kept: numbers are written at `2 * i`. After a loop over `chunks_exact_mut` no proof knows the bytes (tried in `put_indices`), and
@@ -9,19 +9,23 @@ ghost use Rattle.std.specs.Prelude.{◌≡◌, ◌++◌, ◌∷◌, map, ◌+◌
 ghost use Rattle.pyramid.specs.Definitions.Sizes.{total};
 ghost use Rattle.bale.specs.Definitions.Words.{le32, words, index_word};
 ghost use Rattle.bale.specs.Definitions.Readings.{note_ok};
-ghost use Rattle.bale.specs.Definitions.Files.{shape_section, bins_section, readings_section, level_section, level_sections, file_of, file_length};
-ghost use Rattle.bale.specs.Definitions.Reader.{levels_place};
+ghost use Rattle.bale.specs.Definitions.Files.{shape_count, shape_section, bins_section, readings_section, level_section, level_sections, file_of, file_length};
+ghost use Rattle.bale.specs.Definitions.Reader.{after_shape, levels_place};
 ghost use Rattle.bale.specs.Definitions.Calls.{write_refusal};
 
 use crate::{Code, Note, places, writing};
 use pyramid::{Settings, Shape};
 
+// Black and white come last, so that of four numbers those before them are written.
 fn put_shape(s: Settings, section: &mut [u8])
-    requires { length section.old ≡ 10 }
+    requires { length section.old ≡ after_shape (shape_count s) }
     ensures { section.new ≡ shape_section s }
 {
-    let numbers = [4, s.columns, s.rows, s.depth, s.kernel];
-    for (i, n) in numbers.iter().enumerate() {
+    let count = places::shape_count(s);
+    let numbers = [
+        count, s.columns, s.rows, s.depth, s.kernel, s.black, s.white,
+    ];
+    for (i, n) in numbers[..count as usize + 1].iter().enumerate() {
         section[2 * i..2 * i + 2].copy_from_slice(&n.to_le_bytes());
     }
 }
@@ -86,7 +90,7 @@ fn put_level(indices: &[i16], section: &mut [u8])
 // Kept: `at`, beside the levels that are cut, for the reason that stands at `ShapedFile::fill`.
 fn put_levels(shape: Shape, levels: &[i16], sections: &mut [u8])
     requires levels_length { length levels.now ≡ total shape.settings }
-    requires long { levels_place shape.settings.depth + length sections.old ≡ file_length shape.settings }
+    requires long { levels_place shape.settings + length sections.old ≡ file_length shape.settings }
     ensures { sections.new ≡ level_sections shape.settings shape.settings.depth levels.now }
 {
     let mut at = 0;
@@ -106,12 +110,12 @@ pub fn put_file(shape: Shape, note: Note, levels: &[i16], file: &mut [u8])
     ensures { file.new ≡
         file_of shape.settings note levels.now ++ drop (file_length shape.settings) file.old }
 {
-    let depth = shape.settings.depth;
+    let s = shape.settings;
     let (file, _) = file.split_at_mut(writing::file_length(shape));
-    let (front, sections) = file.split_at_mut(places::levels(depth));
-    let (front, readings) = front.split_at_mut(places::readings(depth));
-    let (start, bins) = front.split_at_mut(places::BINS);
-    put_shape(shape.settings, start);
+    let (front, sections) = file.split_at_mut(places::levels(s));
+    let (front, readings) = front.split_at_mut(places::readings(s));
+    let (start, bins) = front.split_at_mut(places::bins(s));
+    put_shape(s, start);
     put_bins(shape, bins);
     put_readings(note, readings);
     put_levels(shape, levels, sections);

@@ -5,7 +5,7 @@ ghost use Rattle.pyramid.specs.Definitions.Shapes.{shape_settings};
 ghost use Rattle.bale.specs.Definitions.Files.{file_length};
 ghost use Rattle.bale.specs.Definitions.Calls.{write_refusal};
 
-use crate::Note;
+use crate::{Note, places};
 use pyramid::{LawfulSettings, Settings, Shape};
 use refusals::Refusal;
 
@@ -13,7 +13,10 @@ use refusals::Refusal;
 pub fn file_length(shape: Shape) -> usize
     ensures { result ≡ file_length shape.settings }
 {
-    24 + 4 * (shape.settings.depth as usize + 1) + 2 * shape.nodes() as usize
+    let s = shape.settings;
+    16 + 2 * places::shape_count(s) as usize
+        + 4 * (s.depth as usize + 1)
+        + 2 * shape.nodes() as usize
 }
 
 // The shape of what the writer accepts, or the first rule that is broken.

@@ -49,7 +49,7 @@ module _ (s : Settings) where
   -- ---- what is shown
 
   module _ (levels : List ℤ) (picture : List ℕ) (work : List ℤ) (ok : (rebuilding s levels picture work).answer ≡ 0) where
-    shown_pixels : T (pixels_ok s (rebuilding s levels picture work).picture)
+    pub shown_pixels : T (pixels_ok s (rebuilding s levels picture work).picture)
     unfolding rebuilding pixels_ok
     shown_pixels =
         let greys = (accepted_rebuilding s levels picture work ok).0.law.shaped.greys in
@@ -66,6 +66,11 @@ module _ (s : Settings) where
     pub shown_pixel : (p : ℕ) → p < length picture
         → (s.black ≤ get_or (rebuilding s levels picture work).picture p 0) × (get_or (rebuilding s levels picture work).picture p 0 ≤ s.white)
     shown_pixel p h = (pixels_decide s (rebuilding s levels picture work).picture).0 shown_pixels p (rw shown_long h)
+
+-- pixels between a black and a white lie between a black that is not above the one and a white that is not below the other
+pub pixels_inside : (s t : Settings) (picture : List ℕ) → T (pixels_ok s picture) → t.black ≤ s.black → s.white ≤ t.white → T (pixels_ok t picture)
+pixels_inside s t picture ok black white =
+    (pixels_decide t picture).1 (λ p h. let (low, high) = (pixels_decide s picture).0 ok p h in (omega (arith, low, black), omega (arith, high, white)))
 
 pub shown_greys : ShownGreys
 shown_greys s levels picture work ok p h = shown_pixel s levels picture work ok p h

@@ -108,6 +108,14 @@ first_between zero zero later hx hl e = absurd (hl e)
 first_between zero (suc y) later hx hl e = (refl, e)
 first_between (suc x) y later hx hl e = absurd (hx e)
 
+-- the third of the rules gives it, where the two before it and those after it do not
+pub first_third : (x y z : ℕ) (later : List ℕ) {number : ℕ} → x ≢ number → y ≢ number → first later ≢ number → first (x ∷ y ∷ z ∷ later) ≡ number
+    → (x ≡ 0) × (y ≡ 0) × (z ≡ number)
+unfolding first
+first_third zero zero z later hx hy hl e = let (_, own) = first_between 0 z later (λ p. hx p) hl e in (refl, refl, own)
+first_third zero (suc y) z later hx hy hl e = absurd (hy e)
+first_third (suc x) y z later hx hy hl e = absurd (hx e)
+
 -- ---- what is answered: a number m other than 0 is the answer, 0 is passed over, and the last rule's is the answer
 
 pub answers_stop : {m x : ℕ} (later : List ℕ) → m ≡ x → (m ≡ 0 → ⊥) → m ≡ first (x ∷ later)

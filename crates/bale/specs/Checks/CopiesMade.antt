@@ -9,10 +9,13 @@ use Rattle.bale.specs.Definitions.Files.{file_length}
 use Rattle.bale.specs.Definitions.Calls.{check_file}
 use Rattle.bale.specs.Definitions.Copies.{Filing, Copy, written_bytes, first_written, filing_refusal, copy_refusal, copied, copy_bound, file_after}
 
--- lawful settings of a picture as large as that of the old ones, and buffers as the four calls ask for
+-- lawful settings of a picture as large as that of the old ones, black and white that take in the old ones, and buffers as the four calls ask
+-- for
 pub record Suits (old : Settings) (c : Copy) : Type 0 where
   pub lawful : settings_refusal c.settings ≡ 0
   pub pixels : old.rows * old.columns ≡ c.settings.rows * c.settings.columns
+  pub black : c.settings.black ≤ old.black
+  pub white : old.white ≤ c.settings.white
   pub read : length c.read ≡ total old
   pub picture : length c.picture ≡ old.rows * old.columns
   pub work : total old ≤ length c.work

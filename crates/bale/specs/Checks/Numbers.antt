@@ -1,4 +1,4 @@
--- Which numbers each call can answer (document 01, "Who can cause which refusal"; document 02, P1), a row for each call. Assumes nothing.
+-- Which numbers each call can answer (document 01, "Who can cause which refusal"; document 02, P1 and P5), a row for each call. Assumes nothing.
 use Rattle.std.specs.Prelude.{List, [], ◌∷◌, ◌++◌, ℕ, ℤ}
 use Rattle.pyramid.specs.declared.Settings.{Settings}
 use Rattle.pyramid.specs.Checks.Numbers.{Answers, shape_numbers, settings_numbers}

@@ -10,7 +10,7 @@ use Rattle.bale.specs.Definitions.Readings.{code_of, decode}
 use Rattle.bale.specs.Definitions.Calls.{BaleAnswer, size_answer, write_file, check_file, read_file}
 
 pub record HoldsNothing (bale : BaleAnswer) : Type 0 where
-  pub numbers : bale.settings ≡ record { columns = 0; rows = 0; depth = 0; kernel = 0; bins = replicate 7 0 }
+  pub numbers : bale.settings ≡ record { columns = 0; rows = 0; depth = 0; kernel = 0; black = 0; white = 0; bins = replicate 7 0 }
   pub readings : bale.note ≡ record { before_drier = NotFitted; at_press = NotFitted }
 
 pub record RefusedFilesHoldNothing : Type 0 where

@@ -1,18 +1,20 @@
 -- Reading is total (document 01, "Who can cause which refusal"): every list of bytes has one answer, and it is one of the reader's numbers;
--- 6 and the numbers of the shape are given on their conditions and on no other (document 02, P1). Assumes nothing.
-use Rattle.std.specs.Prelude.{◌≡◌, ◌↔◌, ◌≢◌, ◌⊎◌, List, ℕ, ◌≤◌, T, length}
+-- 6 and the numbers of the shape are given on their conditions and on no other (document 02, P1 and P5). Assumes nothing.
+use Rattle.std.specs.Prelude.{◌≡◌, ◌↔◌, ◌≢◌, ◌⊎◌, List, ℕ, ◌+◌, ◌*◌, ◌≤◌, T, length}
 use Rattle.pyramid.specs.Definitions.Sizes.{total}
 use Rattle.pyramid.specs.Definitions.Refusals.{shape_refusal}
 use Rattle.pyramid.specs.Checks.Numbers.{one_of, Answers, shape_numbers}
 use Rattle.bale.specs.Definitions.Words.{u16_at}
+use Rattle.bale.specs.Definitions.Files.{shape_count}
 use Rattle.bale.specs.Definitions.Reader.{settings_in, shape_section_refusal}
 use Rattle.bale.specs.Definitions.Calls.{read_refusal, check_refusal}
 use Rattle.bale.specs.Checks.Numbers.{check_numbers, read_numbers}
 
--- the shape section is whole, its count is 4, and n is the number of the first rule that the shape in it breaks
+-- the shape section is whole, its count is the one that goes with the black and the white in it, and n is the number of the first rule that
+-- the shape in it breaks
 pub record ShapeGives (bytes : List ℕ) (n : ℕ) : Type 0 where
-  pub whole : 10 ≤ length bytes
-  pub counted : u16_at bytes 0 ≡ 4
+  pub whole : 2 + 2 * shape_count (settings_in bytes) ≤ length bytes
+  pub counted : u16_at bytes 0 ≡ shape_count (settings_in bytes)
   pub gives : shape_refusal (settings_in bytes) ≡ n
 
 pub record ReadingIsTotal (bytes : List ℕ) : Type 0 where

@@ -34,7 +34,7 @@ file_a =
 -- ---- three columns and two rows, N = 0, k = 5, bin 7; fault 9, then 100 % (bits 42C80000); indices 1, -2, 3 / -4, 5, -6: 40 bytes
 
 abbrev pub wide : Settings
-wide = record { columns = 3; rows = 2; depth = 0; kernel = 5; bins = 7 ∷ 0 ∷ 0 ∷ 0 ∷ 0 ∷ 0 ∷ 0 ∷ [] }
+wide = record { columns = 3; rows = 2; depth = 0; kernel = 5; black = 0; white = 255; bins = 7 ∷ 0 ∷ 0 ∷ 0 ∷ 0 ∷ 0 ∷ 0 ∷ [] }
 
 abbrev pub note_wide : Note
 note_wide = record { before_drier = Fault 9; at_press = Percentage (of_bits binary32 0x42C8_0000) }

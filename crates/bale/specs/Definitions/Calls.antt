@@ -10,7 +10,7 @@ use Rattle.bale.specs.declared.Reading.TheVariants.{NotFitted}
 use Rattle.bale.specs.declared.Bale.{Bale}
 use Rattle.bale.specs.Definitions.Readings.{note_ok}
 use Rattle.bale.specs.Definitions.Files.{file_of, file_length}
-use Rattle.bale.specs.Definitions.Reader.{depth_in, settings_in, note_in, levels_in, shape_section_refusal, body_refusal}
+use Rattle.bale.specs.Definitions.Reader.{settings_in, note_in, levels_in, shape_section_refusal, body_refusal}
 
 -- what a call answers: a refusal's number, and values, which are 0 and not fitted where it is not 0
 pub record SizeAnswer : Type 0 where
@@ -59,7 +59,7 @@ module _ (s : Settings) where
 
 -- a refusal holds 0 in the numbers and not fitted in the readings
 unfoldable pub no_settings : Settings
-no_settings = record { columns = 0; rows = 0; depth = 0; kernel = 0; bins = replicate 7 0 }
+no_settings = record { columns = 0; rows = 0; depth = 0; kernel = 0; black = 0; white = 0; bins = replicate 7 0 }
 
 unfoldable pub no_note : Note
 no_note = record { before_drier = NotFitted; at_press = NotFitted }
@@ -82,7 +82,7 @@ module _ (bytes : List ℕ) where
       record {
         refusal = refusal;
         settings = leaves refusal (settings_in bytes) no_settings;
-        note = leaves refusal (note_in bytes (depth_in bytes)) no_note;
+        note = leaves refusal (note_in bytes (settings_in bytes)) no_note;
       }
 
   unfoldable pub check_file : BaleAnswer

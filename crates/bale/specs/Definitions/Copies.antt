@@ -4,7 +4,6 @@ use Rattle.std.specs.Prelude.{◌≡◌, List, [], ◌∷◌, ℕ, ◌+◌, ℤ,
 use Rattle.pyramid.specs.declared.Settings.{Settings}
 use Rattle.pyramid.specs.declared.Manner.{Manner}
 use Rattle.pyramid.specs.Definitions.Bound.{bound_at}
-use Rattle.pyramid.specs.Definitions.Buffers.{Bytes}
 use Rattle.pyramid.specs.Definitions.Refusals.{first}
 use Rattle.pyramid.specs.Definitions.Calls.{leaves, CodingOutcome, RebuildingOutcome, coding, rebuilding}
 use Rattle.bale.specs.declared.Note.{Note}
@@ -18,8 +17,7 @@ written_bytes w = take w.answer.size w.file
 -- ---- the first file
 
 -- The picture, the settings and the manner that it is coded with, the note, and the buffers of both calls, of any length and contents; what
--- follows says no more than the types of these: a picture is bytes, there are seven bins, readings are what an enum of a 32-bit float and a
--- number holds
+-- follows says no more than the types of these: there are seven bins, readings are what an enum of a 32-bit float and a number holds
 pub record Filing : Type 0 where
   pub picture : List ℕ
   pub settings : Settings
@@ -28,7 +26,6 @@ pub record Filing : Type 0 where
   pub levels : List ℤ
   pub work : List ℤ
   pub file : List ℕ
-  pub bytes : Bytes picture
   pub seven : length settings.bins ≡ 7
   pub drier : HeldReading note.before_drier
   pub press : HeldReading note.at_press

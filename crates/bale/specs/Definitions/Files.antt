@@ -1,6 +1,6 @@
--- The bale file as a list of bytes (document 01, "Bale file"): shape, bins, readings, and a section for each level, level N first.
--- Assumes nothing.
-use Rattle.std.specs.Prelude.{List, [], ◌∷◌, ◌++◌, map, ℕ, zero, suc, ◌+◌, ◌*◌, ℤ, take, drop}
+-- The bale file as a list of bytes (document 01, "Bale file"; document 02, P5): shape, bins, readings, and a section for each level, level N
+-- first. Assumes nothing.
+use Rattle.std.specs.Prelude.{Bool, cond, ◌&&◌, List, [], ◌∷◌, ◌++◌, map, ℕ, zero, suc, ◌+◌, ◌*◌, eqb, ℤ, take, drop}
 use Rattle.pyramid.specs.declared.Settings.{Settings}
 use Rattle.pyramid.specs.Definitions.Settings.{bin}
 use Rattle.pyramid.specs.Definitions.Sizes.{nodes_at, total}
@@ -18,8 +18,17 @@ unfoldable pub level_section : List ℤ → List ℕ
 level_section indices = numbers_section (map index_word indices)
 
 module _ (s : Settings) where
+  -- black is 0 and white is 255
+  abbrev pub every_grey : Bool
+  every_grey = eqb s.black 0 && eqb s.white 255
+
+  -- the shape has four numbers there; else black and white follow k
   unfoldable pub shape_section : List ℕ
-  shape_section = numbers_section (s.columns ∷ s.rows ∷ s.depth ∷ s.kernel ∷ [])
+  shape_section = numbers_section (s.columns ∷ s.rows ∷ s.depth ∷ s.kernel ∷ cond every_grey [] (s.black ∷ s.white ∷ []))
+
+  -- how many they are
+  unfoldable pub shape_count : ℕ
+  shape_count = cond every_grey 4 6
 
   -- the bins of levels l to 0
   unfoldable pub bins_from : ℕ → List ℕ
@@ -37,6 +46,6 @@ module _ (s : Settings) where
   unfoldable pub file_of : Note → List ℤ → List ℕ
   file_of note levels = shape_section ++ (bins_section ++ (readings_section note ++ level_sections s.depth levels))
 
-  -- a file has 24 + 4(N + 1) + 2T bytes
+  -- a file has 24 + 4(N + 1) + 2T bytes where the shape has four numbers, and two more for each further one
   unfoldable pub file_length : ℕ
-  file_length = 24 + 4 * (s.depth + 1) + 2 * total s
+  file_length = 16 + 2 * shape_count + 4 * (s.depth + 1) + 2 * total s

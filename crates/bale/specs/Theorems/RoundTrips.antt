@@ -24,7 +24,7 @@ pub record Held (s : Settings) (note : Note) (levels : List ℤ) : Type 0 where
 
 pub record WrittenIsRead (s : Settings) (note : Note) (levels : List ℤ) : Type 0 where
   pub size : length (file_of s note levels) ≡ file_length s
-  pub most : file_length s ≤ 44770
+  pub most : file_length s ≤ 44774
   pub read : (lent : List ℤ) → length lent ≡ total s
       → read_file (file_of s note levels) lent ≡ record { answer = record { refusal = 0; settings = s; note = note }; levels = levels }
 
@@ -47,6 +47,6 @@ ReadThenWritten = (bytes : List ℕ) (lent : List ℤ) → Bytes bytes → read_
 
 abbrev pub CodedThenWritten : Type 0
 CodedThenWritten =
-    (s : Settings) (note : Note) (manner : Manner) (picture : List ℕ) (levels work : List ℤ) (room : ℕ) → Bytes picture
+    (s : Settings) (note : Note) (manner : Manner) (picture : List ℕ) (levels work : List ℤ) (room : ℕ)
     → (coding s manner picture levels work).answer ≡ 0
     → T (note_ok note) → file_length s ≤ room → write_refusal s note (coding s manner picture levels work).levels room ≡ 0

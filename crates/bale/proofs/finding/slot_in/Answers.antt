@@ -6,7 +6,7 @@ use Rattle.bale.proofs.finding.slot_in.Goals as goal
 
 pub returns-then-level-depth : goal.returns-then-level-depth
 unfolding slot_in
-returns-then-level-depth c = c.u16_at.ensures ∙ rw (le-leb _ _ c.if-level-depth.true)
+returns-then-level-depth c = c.u16_at.ensures ∙ rw (le-leb _ _ c.if-level-depth.true, c.after_shape-bins.ensures, c.count_in.ensures)
 
 pub returns-else-level-depth : goal.returns-else-level-depth
 unfolding slot_in

@@ -5,4 +5,4 @@ use Rattle.bale.proofs.writing.file_length.Goals as goal
 
 pub returns : goal.returns
 unfolding file_length
-returns c = rw c.nodes.ensures refl
+returns c = rw (c.nodes.ensures, c.shape_count.ensures.0) refl

@@ -7,16 +7,16 @@ use Rattle.bale.proofs.shaped.ShapedFile.check_bins.Goals as goal
 
 pub returns-in_err-check_section : goal.returns-in_err-check_section
 returns-in_err-check_section c =
-    let said = rw (c.rest-section.ensures, section_after) at c.in_err-check_section.ensures in
+    let said = rw (c.rest-section.ensures, c.bins.ensures.0, section_after) at c.in_err-check_section.ensures in
     passed_on _ _ _ c.from_residual.result _ c.from_residual.ensures.1 said (bins_stop _ _ c.args.self.now.read)
 
 pub returns-in_err-lawful : goal.returns-in_err-lawful
 returns-in_err-lawful c =
-    let section = none _ _ (sym (rw (c.rest-section.ensures, section_after) at c.in_ok-check_section.ensures)) in
+    let section = none _ _ (sym (rw (c.rest-section.ensures, c.bins.ensures.0, section_after) at c.in_ok-check_section.ensures)) in
     passed_on _ _ _ c.from_residual-in_err-lawful.result _ c.from_residual-in_err-lawful.ensures.1 c.in_err-lawful.ensures
     (λ _. bins_left _ _ c.args.self.now.read section)
 
 pub returns : goal.returns
 returns c =
-    let section = none _ _ (sym (rw (c.rest-section.ensures, section_after) at c.in_ok-check_section.ensures)) in
+    let section = none _ _ (sym (rw (c.rest-section.ensures, c.bins.ensures.0, section_after) at c.in_ok-check_section.ensures)) in
     accepts _ (bins_left _ _ c.args.self.now.read section ∙ none _ _ (sym c.in_ok-lawful.ensures))

@@ -5,5 +5,5 @@ use Rattle.bale.proofs.shaped.ShapedFile.check_levels.Given as goal
 
 abbrev pub invariant-loop-level : goal.invariant-loop-level
 invariant-loop-level l =
-    level_sections_refusal l.self.bytes.now l.self.shape.settings l.depth (levels_place l.depth)
+    level_sections_refusal l.self.bytes.now l.self.shape.settings l.self.shape.settings.depth (levels_place l.self.shape.settings)
     ≡ level_sections_refusal l.left l.self.shape.settings l.level 0

@@ -13,5 +13,5 @@ invariant-loop-level l =
     record {
       room : l.from + nodes_to s l.level ≡ length l.fn.levels;
       whole : 2 * (l.level + 1) + 2 * nodes_to s l.level ≡ length l.left;
-      read : splice l.from (levels_from l.left s l.level 0) l.levels ≡ splice 0 (levels_from l.fn.self.bytes.now s s.depth (levels_place s.depth)) l.fn.levels;
+      read : splice l.from (levels_from l.left s l.level 0) l.levels ≡ splice 0 (levels_from l.fn.self.bytes.now s s.depth (levels_place s)) l.fn.levels;
     }
