@@ -1,5 +1,5 @@
-//! Piece A seen by a camera of 40 to 140, through the example's wrapper: every pixel is 40 more, so are the averages, the
-//! indices below the top are the same, and what is rebuilt is clamped to 40, where piece A itself is clamped to 0.
+//! Piece A seen by a camera of 40 to 140, through the example's wrapper: every pixel is 40 more, so are the averages,
+//! the indices below the top are the same, and what is rebuilt is clamped to 40, where piece A itself is clamped to 0.
 
 use crate::lent::Lent;
 use crate::lepsarvu::{self, Bale, Refused, Settings};

@@ -113,9 +113,11 @@ void compare_rebuilding(struct run *run, const lepsarvu_settings *s)
     lend_pair(picture, pixels, &run->draw);
     lend_pair(work, places * sizeof(int32_t), &run->draw);
     for (int which = 0; which < 2; which++)
-        answers[which] = PYRAMIDS[which]->rebuilding(lent, lent_levels, indices, start_of(&picture[which]), pixels,
-                                                     start_of(&work[which]), places);
-    int passed = answers[0] == answers[1] && kept(&settings) && kept(&levels) && same_pair(picture, answers[0], pixels) &&
+        answers[which] =
+            PYRAMIDS[which]->rebuilding(lent, lent_levels, indices, start_of(&picture[which]), pixels,
+                                        start_of(&work[which]), places);
+    int passed = answers[0] == answers[1] && kept(&settings) && kept(&levels) &&
+                 same_pair(picture, answers[0], pixels) &&
                  same_pair(work, answers[0], nodes * sizeof(int32_t));
     count(&run->tally, REBUILDING, answers[0], passed);
 }

@@ -142,8 +142,8 @@ static void put_shape(uint8_t *file, const struct form *form, const lepsarvu_set
     put(file + form->shape, bins);
 }
 
-/* A set of the shape's rules, perhaps with a wrong level buffer and a wrong second count. With six numbers 0 and 255 are
- * refused with 10 before all of them; cut before the last byte of the shape, it is 9. */
+/* A set of the shape's rules, perhaps with a wrong level buffer and a wrong second count. With six numbers 0 and 255
+ * are refused with 10 before all of them; cut before the last byte of the shape, it is 9. */
 static void read_set(const struct form *form, unsigned of_shape, int needless, size_t more_levels, size_t more_bins)
 {
     lepsarvu_settings s = broken(form->s, of_shape);

@@ -17,8 +17,10 @@ _Static_assert(MOST_LENT + GUARD <= ROOM, "there is room for every thing and a g
 enum place { AT_END, AT_START, PLACES };
 
 static const char *const PLACE_NAMES[PLACES] = {"memory ends", "memory starts"};
-static const char *const THING_NAMES[THINGS] = {"settings", "note", "picture", "levels",        "work",      "file", "number",
-                                                "size",     "bounds", "read settings", "read note", "columns", "rows"};
+static const char *const THING_NAMES[THINGS] = {
+    "settings", "note",   "picture",       "levels",    "work",    "file", "number",
+    "size",     "bounds", "read settings", "read note", "columns", "rows",
+};
 
 static unsigned char *room[THINGS];
 static sigjmp_buf before_fault;

@@ -1,4 +1,5 @@
-/* Closed-loop coding and its bounds in plain C, written from P4 and P5 of document 02 alone, with the steps of plain.c. */
+/* Closed-loop coding and its bounds in plain C, written from P4 and P5 of document 02 alone, with the steps of
+ * plain.c. */
 #include "plain_steps.h"
 
 /* The averages g of the picture, and the unclamped values r that a reader will rebuild. */
