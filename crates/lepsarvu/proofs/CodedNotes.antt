@@ -1,10 +1,11 @@
 -- The writer that is handed kinds and numbers for its readings: which refusal comes first, and what is left. Assumes nothing.
 use mathlib.Core.Path.{◌≡◌, refl, sym, ap, ◌∙◌}
 use mathlib.Core.List.{List, [], ◌∷◌}
-use Prim.Native.Nat.{ℕ, zero, suc, ◌≤◌}
+use Prim.Native.Nat.{ℕ, zero, suc, ◌+◌, ◌≤◌}
 use lib.IntN.{ℤ}
-use lib.ListN.{length}
+use lib.ListN.{length, get_or}
 use Rattle.refusals.specs.Definitions.Outcomes.{outcome}
+use Rattle.refusals.specs.Checks.Numbers.{greatest}
 use Rattle.pyramid.specs.declared.Settings.{Settings}
 use Rattle.pyramid.specs.Definitions.Refusals.{first, settings_refusal}
 use Rattle.pyramid.specs.Definitions.Calls.{leaves}
@@ -12,13 +13,12 @@ use Rattle.pyramid.specs.Checks.Numbers.{settings_numbers}
 use Rattle.pyramid.proofs.Numbers.{pyramid_numbers}
 use Rattle.pyramid.proofs.Refusals.{first_stop, first_skip, first-last, leaves_kept, outcome_left}
 use Rattle.bale.specs.declared.Note.{Note}
-use Rattle.bale.specs.Definitions.Readings.{decode}
 use Rattle.bale.specs.Definitions.Files.{file_length}
 use Rattle.bale.specs.Definitions.Calls.{write_refusal, write_file}
 use Rattle.bale.specs.Checks.Numbers.{writing_numbers}
 use Rattle.bale.proofs.Numbers.{bale_numbers}
 use Rattle.bale.proofs.Answers.{writing_refusal}
-use Rattle.lepsarvu.specs.Definitions.Exports.{note_of, coded_refusal, coded_file}
+use Rattle.lepsarvu.specs.Definitions.Exports.{reading_at, note_of, coded_refusal, coded_file}
 use Rattle.lepsarvu.proofs.Given.{small, one_small}
 
 left_twice : {A : Type 0} (n : ℕ) (new old : A) → leaves n new old ≡ leaves n (leaves n new old) old
@@ -26,23 +26,23 @@ unfolding leaves
 left_twice zero new old = refl
 left_twice (suc n) new old = refl
 
-first_most : (x : ℕ) (later : List ℕ) → x ≤ 18 → first later ≤ 18 → first (x ∷ later) ≤ 18
+first_most : (x : ℕ) (later : List ℕ) → x ≤ greatest → first later ≤ greatest → first (x ∷ later) ≤ greatest
 unfolding first
 first_most zero later h k = k
 first_most (suc n) later h k = h
 
-module _ (s : Settings) (drierKind drierNumber pressKind pressNumber : ℕ) (levels : List ℤ) (file : List ℕ) where
+module _ (s : Settings) (numbers : List ℕ) (levels : List ℤ) (file : List ℕ) where
   abbrev given-note : Note
-  given-note = note_of drierKind drierNumber pressKind pressNumber
+  given-note = note_of numbers
 
   abbrev drier : ℕ
-  drier = (decode drierKind drierNumber).refusal
+  drier = (reading_at numbers 0).refusal
 
   abbrev press : ℕ
-  press = (decode pressKind pressNumber).refusal
+  press = (reading_at numbers 2).refusal
 
   abbrev coded : ℕ
-  coded = coded_refusal s drierKind drierNumber pressKind pressNumber levels (length file)
+  coded = coded_refusal s numbers levels (length file)
 
   -- ---- which refusal comes first
 
@@ -66,13 +66,13 @@ module _ (s : Settings) (drierKind drierNumber pressKind pressNumber : ℕ) (lev
 
   -- ---- what is left in the file buffer
 
-  pub file_kept : (coded ≡ 0 → ⊥) → file ≡ coded_file s drierKind drierNumber pressKind pressNumber levels file
+  pub file_kept : (coded ≡ 0 → ⊥) → file ≡ coded_file s numbers levels file
   unfolding coded_file
   file_kept r = sym (leaves_kept _ _ _ r)
 
   -- what the writer leaves and answers, where it is the one that is asked
   module _ (e : coded ≡ write_refusal s given-note levels (length file)) where
-    pub file_written : (write_file s given-note levels file).file ≡ coded_file s drierKind drierNumber pressKind pressNumber levels file
+    pub file_written : (write_file s given-note levels file).file ≡ coded_file s numbers levels file
     unfolding coded_file write_file
     file_written = rw e (left_twice (write_refusal s given-note levels (length file)) _ file)
 
@@ -82,23 +82,23 @@ module _ (s : Settings) (drierKind drierNumber pressKind pressNumber : ℕ) (lev
 
   -- ---- the number is that of a refusal
 
-  settings_number : settings_refusal s ≤ 18
+  settings_number : settings_refusal s ≤ greatest
   unfolding small
   settings_number = one_small (0 ∷ settings_numbers) _ tt (pyramid_numbers s).of_settings
 
-  reading_number : (kind number : ℕ) → (decode kind number).refusal ≤ 18
-  unfolding small
-  reading_number kind number = one_small (0 ∷ 4 ∷ []) _ tt (bale_numbers.of_decoding kind number)
+  reading_number : (i : ℕ) → (reading_at numbers i).refusal ≤ greatest
+  unfolding small reading_at
+  reading_number i = one_small (0 ∷ 4 ∷ []) _ tt (bale_numbers.of_decoding (get_or numbers i 0) (get_or numbers (i + 1) 0))
 
-  writer_number : write_refusal s given-note levels (length file) ≤ 18
+  writer_number : write_refusal s given-note levels (length file) ≤ greatest
   unfolding small
   writer_number =
-      let h : (write_file s given-note levels file).answer.refusal ≤ 18 = one_small (0 ∷ writing_numbers) _ tt (bale_numbers.of_writing s given-note levels file) in
+      let h : (write_file s given-note levels file).answer.refusal ≤ greatest = one_small (0 ∷ writing_numbers) _ tt (bale_numbers.of_writing s given-note levels file) in
       rw (writing_refusal s given-note levels file) at h
 
-  pub coded_number : coded ≤ 18
+  pub coded_number : coded ≤ greatest
   unfolding coded_refusal
   coded_number =
       first_most _ _ settings_number
-      (first_most _ _ (reading_number drierKind drierNumber)
-      (first_most _ _ (reading_number pressKind pressNumber) (rw first-last writer_number)))
+      (first_most _ _ (reading_number 0)
+      (first_most _ _ (reading_number 2) (rw first-last writer_number)))

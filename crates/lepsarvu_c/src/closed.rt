@@ -7,43 +7,30 @@ ghost use Rattle.lepsarvu.specs.Definitions.Exports.{settings_of};
 
 #[unsafe(no_mangle)]
 pub extern "C" fn lepsarvu_closed_loop_coding(
-    columns: u16,
-    rows: u16,
-    depth: u16,
-    kernel: u16,
-    bins: &[u16; 7],
+    settings: &[u16; 13],
     picture: &[u8],
     levels: &mut [i16],
     work: &mut [i32],
 ) -> u16
     ensures value { result ≡
-        (coding (settings_of columns rows depth kernel bins.now) ClosedLoop picture.now
+        (coding (settings_of settings.now) ClosedLoop picture.now
         levels.old work.old).answer }
     ensures levels_after { levels.new ≡
-        (coding (settings_of columns rows depth kernel bins.now) ClosedLoop picture.now
+        (coding (settings_of settings.now) ClosedLoop picture.now
         levels.old work.old).levels }
     ensures work_after { work.new ≡
-        (coding (settings_of columns rows depth kernel bins.now) ClosedLoop picture.now
+        (coding (settings_of settings.now) ClosedLoop picture.now
         levels.old work.old).work }
 {
-    lepsarvu::closed::lepsarvu_closed_loop_coding(
-        columns, rows, depth, kernel, bins, picture, levels, work,
-    )
+    lepsarvu::closed::lepsarvu_closed_loop_coding(settings, picture, levels, work)
 }
 
 #[unsafe(no_mangle)]
-pub extern "C" fn lepsarvu_closed_loop_bounds(
-    columns: u16,
-    rows: u16,
-    depth: u16,
-    kernel: u16,
-    bins: &[u16; 7],
-    bounds: &mut [u16; 7],
-) -> u16
-    ensures value { result ≡ (bounds_answer (settings_of columns rows depth kernel bins.now) ClosedLoop).refusal }
+pub extern "C" fn lepsarvu_closed_loop_bounds(settings: &[u16; 13], bounds: &mut [u16; 7]) -> u16
+    ensures value { result ≡ (bounds_answer (settings_of settings.now) ClosedLoop).refusal }
     ensures bounds_after { bounds.new ≡
-        leaves result (bounds_answer (settings_of columns rows depth kernel bins.now) ClosedLoop).levels
+        leaves result (bounds_answer (settings_of settings.now) ClosedLoop).levels
         bounds.old }
 {
-    lepsarvu::closed::lepsarvu_closed_loop_bounds(columns, rows, depth, kernel, bins, bounds)
+    lepsarvu::closed::lepsarvu_closed_loop_bounds(settings, bounds)
 }

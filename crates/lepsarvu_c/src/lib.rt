@@ -1,7 +1,7 @@
 // The functions of the crate lepsarvu as a static library: each export calls the function of its name and has its clauses. include/lepsarvu.h
 // declares them.
 // Kept: each function is that of `lepsarvu` again, with its clauses, since no crate can stand on a static library, and Rattle callers, test_exports among
-// them, need these functions too (docs/DECISIONS.md). Numbers for refusals, and the settings and what is handed out one by one: the C interface.
+// them, need these functions too (docs/DECISIONS.md). Numbers for refusals, and arrays for what C has as structs: the C interface.
 #![tactic(auto)]
 
 ghost use Rattle.std.specs.Prelude.{◌≡◌, length};
@@ -9,74 +9,59 @@ ghost use Rattle.pyramid.specs.declared.Manner.TheVariants.{OpenLoop};
 ghost use Rattle.pyramid.specs.Definitions.Calls.{leaves, coding, rebuilding};
 ghost use Rattle.pyramid.specs.Definitions.Answers.{nodes_answer, bounds_answer, deepest_answer};
 ghost use Rattle.bale.specs.Definitions.Calls.{size_answer, check_file, read_file};
-ghost use Rattle.lepsarvu.specs.Definitions.Exports.{settings_of, shape_of, kinds_of, numbers_of, coded_refusal, coded_file, coded_size};
+ghost use Rattle.lepsarvu.specs.Definitions.Exports.{settings_of, settings_array, note_array, coded_refusal, coded_file, coded_size};
 
 pub mod closed;
 pub mod pictures;
 
 #[unsafe(no_mangle)]
 pub extern "C" fn lepsarvu_coding(
-    columns: u16,
-    rows: u16,
-    depth: u16,
-    kernel: u16,
-    bins: &[u16; 7],
+    settings: &[u16; 13],
     picture: &[u8],
     levels: &mut [i16],
     work: &mut [i32],
 ) -> u16
     ensures value { result ≡
-        (coding (settings_of columns rows depth kernel bins.now) OpenLoop picture.now
+        (coding (settings_of settings.now) OpenLoop picture.now
         levels.old work.old).answer }
     ensures levels_after { levels.new ≡
-        (coding (settings_of columns rows depth kernel bins.now) OpenLoop picture.now
+        (coding (settings_of settings.now) OpenLoop picture.now
         levels.old work.old).levels }
     ensures work_after { work.new ≡
-        (coding (settings_of columns rows depth kernel bins.now) OpenLoop picture.now
+        (coding (settings_of settings.now) OpenLoop picture.now
         levels.old work.old).work }
 {
-    lepsarvu::lepsarvu_coding(columns, rows, depth, kernel, bins, picture, levels, work)
+    lepsarvu::lepsarvu_coding(settings, picture, levels, work)
 }
 
 #[unsafe(no_mangle)]
 pub extern "C" fn lepsarvu_rebuilding(
-    columns: u16,
-    rows: u16,
-    depth: u16,
-    kernel: u16,
-    bins: &[u16; 7],
+    settings: &[u16; 13],
     levels: &[i16],
     picture: &mut [u8],
     work: &mut [i32],
 ) -> u16
     ensures value { result ≡
-        (rebuilding (settings_of columns rows depth kernel bins.now) levels.now
+        (rebuilding (settings_of settings.now) levels.now
         picture.old work.old).answer }
     ensures picture_after { picture.new ≡
-        (rebuilding (settings_of columns rows depth kernel bins.now) levels.now
+        (rebuilding (settings_of settings.now) levels.now
         picture.old work.old).picture }
     ensures work_after { work.new ≡
-        (rebuilding (settings_of columns rows depth kernel bins.now) levels.now
+        (rebuilding (settings_of settings.now) levels.now
         picture.old work.old).work }
 {
-    lepsarvu::lepsarvu_rebuilding(columns, rows, depth, kernel, bins, levels, picture, work)
+    lepsarvu::lepsarvu_rebuilding(settings, levels, picture, work)
 }
 
 #[unsafe(no_mangle)]
-pub extern "C" fn lepsarvu_level_bounds(
-    columns: u16,
-    rows: u16,
-    depth: u16,
-    kernel: u16,
-    bins: &[u16; 7],
-    bounds: &mut [u16; 7],
-) -> u16
-    ensures value { result ≡ (bounds_answer (settings_of columns rows depth kernel bins.now) OpenLoop).refusal }
+pub extern "C" fn lepsarvu_level_bounds(settings: &[u16; 13], bounds: &mut [u16; 7]) -> u16
+    ensures value { result ≡ (bounds_answer (settings_of settings.now) OpenLoop).refusal }
     ensures bounds_after { bounds.new ≡
-        leaves result (bounds_answer (settings_of columns rows depth kernel bins.now) OpenLoop).levels
+        leaves result (bounds_answer (settings_of settings.now) OpenLoop).levels
         bounds.old }
 {
-    lepsarvu::lepsarvu_level_bounds(columns, rows, depth, kernel, bins, bounds)
+    lepsarvu::lepsarvu_level_bounds(settings, bounds)
 }
 
 #[unsafe(no_mangle)]
@@ -88,124 +73,70 @@ pub extern "C" fn lepsarvu_deepest_depth(columns: u16, rows: u16, depth: &mut u1
 }
 
 #[unsafe(no_mangle)]
-pub extern "C" fn lepsarvu_total_nodes(
-    columns: u16,
-    rows: u16,
-    depth: u16,
-    kernel: u16,
-    bins: &[u16; 7],
-    nodes: &mut u16,
-) -> u16
-    ensures value { result ≡ (nodes_answer (settings_of columns rows depth kernel bins.now)).refusal }
+pub extern "C" fn lepsarvu_total_nodes(settings: &[u16; 13], nodes: &mut u16) -> u16
+    ensures value { result ≡ (nodes_answer (settings_of settings.now)).refusal }
     ensures nodes_after { nodes.new ≡
-        leaves result (nodes_answer (settings_of columns rows depth kernel bins.now)).nodes
+        leaves result (nodes_answer (settings_of settings.now)).nodes
         nodes.old }
 {
-    lepsarvu::lepsarvu_total_nodes(columns, rows, depth, kernel, bins, nodes)
+    lepsarvu::lepsarvu_total_nodes(settings, nodes)
 }
 
 #[unsafe(no_mangle)]
-pub extern "C" fn lepsarvu_file_size(
-    columns: u16,
-    rows: u16,
-    depth: u16,
-    kernel: u16,
-    bins: &[u16; 7],
-    size: &mut usize,
-) -> u16
-    ensures value { result ≡ (size_answer (settings_of columns rows depth kernel bins.now)).refusal }
+pub extern "C" fn lepsarvu_file_size(settings: &[u16; 13], size: &mut usize) -> u16
+    ensures value { result ≡ (size_answer (settings_of settings.now)).refusal }
     ensures size_after { size.new ≡
-        leaves result (size_answer (settings_of columns rows depth kernel bins.now)).size
+        leaves result (size_answer (settings_of settings.now)).size
         size.old }
 {
-    lepsarvu::lepsarvu_file_size(columns, rows, depth, kernel, bins, size)
+    lepsarvu::lepsarvu_file_size(settings, size)
 }
 
 #[unsafe(no_mangle)]
 pub extern "C" fn lepsarvu_write_file(
-    columns: u16,
-    rows: u16,
-    depth: u16,
-    kernel: u16,
-    bins: &[u16; 7],
-    drier_kind: u8,
-    drier_number: u32,
-    press_kind: u8,
-    press_number: u32,
+    settings: &[u16; 13],
+    note: &[u32; 4],
     levels: &[i16],
     file: &mut [u8],
     size: &mut usize,
 ) -> u16
-    ensures value { result ≡
-        coded_refusal (settings_of columns rows depth kernel bins.now) drier_kind drier_number
-        press_kind press_number levels.now (length file.old) }
-    ensures file_after { file.new ≡
-        coded_file (settings_of columns rows depth kernel bins.now) drier_kind drier_number
-        press_kind press_number levels.now file.old }
+    ensures value { result ≡ coded_refusal (settings_of settings.now) note.now levels.now (length file.old) }
+    ensures file_after { file.new ≡ coded_file (settings_of settings.now) note.now levels.now file.old }
     ensures size_after { size.new ≡
-        coded_size (settings_of columns rows depth kernel bins.now) drier_kind drier_number
-        press_kind press_number levels.now (length file.old) size.old }
+        coded_size (settings_of settings.now) note.now levels.now (length file.old) size.old }
 {
-    lepsarvu::lepsarvu_write_file(
-        columns,
-        rows,
-        depth,
-        kernel,
-        bins,
-        drier_kind,
-        drier_number,
-        press_kind,
-        press_number,
-        levels,
-        file,
-        size,
-    )
+    lepsarvu::lepsarvu_write_file(settings, note, levels, file, size)
 }
 
 #[unsafe(no_mangle)]
 pub extern "C" fn lepsarvu_read_file(
     file: &[u8],
     levels: &mut [i16],
-    shape: &mut [u16; 4],
-    bins: &mut [u16; 7],
-    kinds: &mut [u8; 2],
-    numbers: &mut [u32; 2],
+    settings: &mut [u16; 13],
+    note: &mut [u32; 4],
 ) -> u16
     ensures value { result ≡ (read_file file.now levels.old).answer.refusal }
     ensures levels_after { levels.new ≡ (read_file file.now levels.old).levels }
-    ensures shape_after { shape.new ≡
-        leaves result (shape_of (read_file file.now levels.old).answer.settings)
-        shape.old }
-    ensures bins_after { bins.new ≡
-        leaves result (read_file file.now levels.old).answer.settings.bins
-        bins.old }
-    ensures kinds_after { kinds.new ≡
-        leaves result (kinds_of (read_file file.now levels.old).answer.note)
-        kinds.old }
-    ensures numbers_after { numbers.new ≡
-        leaves result (numbers_of (read_file file.now levels.old).answer.note)
-        numbers.old }
+    ensures settings_after { settings.new ≡
+        leaves result (settings_array (read_file file.now levels.old).answer.settings)
+        settings.old }
+    ensures note_after { note.new ≡
+        leaves result (note_array (read_file file.now levels.old).answer.note) note.old }
 {
-    lepsarvu::lepsarvu_read_file(file, levels, shape, bins, kinds, numbers)
+    lepsarvu::lepsarvu_read_file(file, levels, settings, note)
 }
 
 #[unsafe(no_mangle)]
 pub extern "C" fn lepsarvu_check_file(
     file: &[u8],
-    shape: &mut [u16; 4],
-    bins: &mut [u16; 7],
-    kinds: &mut [u8; 2],
-    numbers: &mut [u32; 2],
+    settings: &mut [u16; 13],
+    note: &mut [u32; 4],
 ) -> u16
     ensures value { result ≡ (check_file file.now).refusal }
-    ensures shape_after { shape.new ≡
-        leaves result (shape_of (check_file file.now).settings) shape.old }
-    ensures bins_after { bins.new ≡
-        leaves result (check_file file.now).settings.bins bins.old }
-    ensures kinds_after { kinds.new ≡
-        leaves result (kinds_of (check_file file.now).note) kinds.old }
-    ensures numbers_after { numbers.new ≡
-        leaves result (numbers_of (check_file file.now).note) numbers.old }
+    ensures settings_after { settings.new ≡
+        leaves result (settings_array (check_file file.now).settings) settings.old }
+    ensures note_after { note.new ≡
+        leaves result (note_array (check_file file.now).note) note.old }
 {
-    lepsarvu::lepsarvu_check_file(file, shape, bins, kinds, numbers)
+    lepsarvu::lepsarvu_check_file(file, settings, note)
 }

@@ -9,7 +9,7 @@ use Rattle.refusals.specs.declared.Refusal.{Refusal}
 use Rattle.refusals.specs.declared.Refusal.TheVariants.{Size, Kernel, Bin, Reading, PictureLength, LevelsLength, WorkLength, FileLength, FileEnds, Count, Index, BytesAfter, Depth, Columns, Rows, Header, Greatest, PixelCount, BlackWhite, Pixel}
 use Rattle.refusals.specs.Definitions.Numbers.{number}
 use Rattle.refusals.specs.Definitions.Outcomes.{refusals, outcome, answer_number}
-use Rattle.refusals.specs.Checks.Numbers.{OneNumberEach}
+use Rattle.refusals.specs.Checks.Numbers.{greatest, OneNumberEach}
 
 err_ok : {A : Type 0} {r : Refusal} {value : A} → Err r ≡ Ok value → ⊥
 err_ok e = cc
@@ -87,14 +87,14 @@ passed_on value other n returned e is said same =
 abbrev at-place : ℕ → Bool
 at-place n = eqb (number (get_or refusals n Pixel)) (suc n)
 
-all-in-order : T (all_below 20 at-place)
+all-in-order : T (all_below greatest at-place)
 unfolding all_below
 all-in-order = tt
 
-answered-by : {A : Type 0} (n : ℕ) (value : A) → n ≤ 20 → answer_number (outcome n value) ≡ n
+answered-by : {A : Type 0} (n : ℕ) (value : A) → n ≤ greatest → answer_number (outcome n value) ≡ n
 unfolding outcome answer_number
 answered-by zero value h = refl
-answered-by (suc n) value h = eqb→eq _ _ (below_at 20 at-place all-in-order n (omega arith))
+answered-by (suc n) value h = eqb→eq _ _ (below_at greatest at-place all-in-order n (omega arith))
 
 apart : (r q : Refusal) → number r ≡ number q → r ≡ q
 apart r q e = err_same (refused_by tt r) (refused_by tt q) (ap (λ (n : ℕ). outcome n tt) e)
@@ -112,7 +112,7 @@ one_number_each = record {
   apart = apart;
 }
   where
-    range : (r : Refusal) → (1 ≤ number r) × (number r ≤ 20)
+    range : (r : Refusal) → (1 ≤ number r) × (number r ≤ greatest)
     range Size = (omega arith, omega arith)
     range Kernel = (omega arith, omega arith)
     range Bin = (omega arith, omega arith)

@@ -1,6 +1,6 @@
 -- `lepsarvu::lepsarvu_check_file` meets its contract, which is that of `bale::check_file`. Assumes nothing.
 use Rattle.bale.specs.declared.Bale.{Bale}
-use Rattle.lepsarvu.specs.Definitions.Exports.{shape_of, kinds_of, numbers_of}
+use Rattle.lepsarvu.specs.Definitions.Exports.{settings_array, note_array}
 use Rattle.lepsarvu.proofs.FileAnswers.{check_number}
 use Rattle.lepsarvu.proofs.Given.{number-is, left}
 use Rattle.lepsarvu.proofs.lepsarvu_check_file.Goals as goal
@@ -12,8 +12,6 @@ returns c =
     let g = c.give_bale.ensures in
     record {
       value = number-is h _ e g.value;
-      shape_after = left h _ e (λ (b : Bale). shape_of b.settings) _ g.value g.shape_after;
-      bins_after = left h _ e (λ (b : Bale). b.settings.bins) _ g.value g.bins_after;
-      kinds_after = left h _ e (λ (b : Bale). kinds_of b.note) _ g.value g.kinds_after;
-      numbers_after = left h _ e (λ (b : Bale). numbers_of b.note) _ g.value g.numbers_after;
+      settings_after = left h _ e (λ (b : Bale). settings_array b.settings) _ g.value g.settings_after;
+      note_after = left h _ e (λ (b : Bale). note_array b.note) _ g.value g.note_after;
     }

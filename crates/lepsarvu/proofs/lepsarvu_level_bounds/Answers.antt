@@ -6,7 +6,7 @@ use Rattle.lepsarvu.proofs.lepsarvu_level_bounds.Goals as goal
 
 pub returns : goal.returns
 returns c =
-    let h = bounds_number c.settings-s.result OpenLoop in
+    let h = bounds_number c.settings_of-s.result OpenLoop in
     let e = c.level_bounds.ensures in
     let g = c.give.ensures in
-    rw (← c.settings-s.ensures) (record { value = number-is h _ e g.value; bounds_after = left h _ e (λ value. value) _ g.value g.place_after })
+    rw (← c.settings_of-s.ensures) (record { value = number-is h _ e g.value; bounds_after = left h _ e (λ value. value) _ g.value g.place_after })

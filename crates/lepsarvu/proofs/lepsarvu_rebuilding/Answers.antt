@@ -5,5 +5,5 @@ use Rattle.lepsarvu.proofs.lepsarvu_rebuilding.Goals as goal
 
 pub returns-clause-value : goal.returns-clause-value
 returns-clause-value c =
-    let h = rebuilding_number c.settings-s.result c.args.levels.now c.args.picture.now c.args.work.now in
-    rw (← c.settings-s.ensures) (number-is h tt c.rebuilding.ensures.value c.answer_number.ensures)
+    let h = rebuilding_number c.settings_of-s.result c.args.levels.now c.args.picture.now c.args.work.now in
+    rw (← c.settings_of-s.ensures) (number-is h tt c.rebuilding.ensures.value c.answer_number.ensures)

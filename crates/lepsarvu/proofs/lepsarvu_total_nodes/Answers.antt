@@ -5,7 +5,7 @@ use Rattle.lepsarvu.proofs.lepsarvu_total_nodes.Goals as goal
 
 pub returns : goal.returns
 returns c =
-    let h = nodes_number c.settings-s.result in
+    let h = nodes_number c.settings_of-s.result in
     let e = c.total_nodes.ensures in
     let g = c.give.ensures in
-    rw (← c.settings-s.ensures) (record { value = number-is h _ e g.value; nodes_after = left h _ e (λ value. value) _ g.value g.place_after })
+    rw (← c.settings_of-s.ensures) (record { value = number-is h _ e g.value; nodes_after = left h _ e (λ value. value) _ g.value g.place_after })

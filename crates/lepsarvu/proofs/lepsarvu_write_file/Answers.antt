@@ -7,9 +7,9 @@ use Rattle.lepsarvu.proofs.lepsarvu_write_file.Goals as goal
 pub returns : goal.returns
 unfolding coded_size
 returns c =
-    let h = coded_number c.settings-s.result c.args.drier_kind c.args.drier_number c.args.press_kind c.args.press_number c.args.levels.now c.args.file.now in
+    let h = coded_number c.settings_of-s.result c.args.note.now c.args.levels.now c.args.file.now in
     let e = c.write_coded.ensures in
-    rw (← c.settings-s.ensures)
+    rw (← c.settings_of-s.ensures)
     (record {
       value = number-is h _ e.value c.give.ensures.value;
       file_after = e.file_after;
