@@ -6,9 +6,9 @@ use Prim.Native.Nat.{ℕ}
 use lib.Dec.{T, eqb}
 use Rattle.mathematics.specs.Definitions.Tests.{all_below}
 use Rattle.pyramid.specs.declared.Settings.{Settings}
-use Rattle.pyramid.specs.Definitions.Settings.{side_ok, size_ok, depth_ok, divides, kernel_ok, slot_ok, bins_ok}
+use Rattle.pyramid.specs.Definitions.Settings.{side_ok, size_ok, depth_ok, divides, kernel_ok, black_white_ok, slot_ok, bins_ok}
 use Rattle.refusals.specs.declared.Refusal.{Refusal}
-use Rattle.refusals.specs.declared.Refusal.TheVariants.{Size, Kernel, Bin, Depth, Columns, Rows}
+use Rattle.refusals.specs.declared.Refusal.TheVariants.{Size, Kernel, Bin, Depth, Columns, Rows, BlackWhite}
 use Rattle.refusals.specs.Definitions.Numbers.{number}
 use Rattle.test_support.specs.Definitions.FaultSets.{chosen, variant_at}
 use Rattle.test_support.specs.Definitions.FaultySettings.{with_faults}
@@ -23,7 +23,7 @@ broken s =
     ++ (fails (depth_ok s.depth) Depth
     ++ (fails (divides s.depth s.columns) Columns
     ++ (fails (divides s.depth s.rows) Rows
-    ++ (fails (kernel_ok s.kernel) Kernel ++ fails (bins_ok s) Bin))))
+    ++ (fails (kernel_ok s.kernel) Kernel ++ (fails (black_white_ok s.black s.white) BlackWhite ++ fails (bins_ok s) Bin)))))
 
 abbrev same : List Refusal → List Refusal → Bool
 same [] [] = true
@@ -32,15 +32,15 @@ same (q ∷ qs) [] = false
 same (q ∷ qs) (r ∷ rs) = eqb (number q) (number r) && same qs rs
 
 abbrev table : List Refusal
-table = Size ∷ Depth ∷ Columns ∷ Rows ∷ Kernel ∷ Bin ∷ []
+table = Size ∷ Depth ∷ Columns ∷ Rows ∷ Kernel ∷ BlackWhite ∷ Bin ∷ []
 
 abbrev Exact : Settings → Type 0
-Exact s = T (all_below 64 (λ set. all_below 4 (λ n. same (broken (with_faults s (chosen set table) (variant_at n))) (chosen set table))))
+Exact s = T (all_below 128 (λ set. all_below 4 (λ n. same (broken (with_faults s (chosen set table) (variant_at n))) (chosen set table))))
 
 abbrev base : ℕ → ℕ → ℕ → List ℕ → Settings
-base columns rows depth bins = record { columns = columns; rows = rows; depth = depth; kernel = 4; bins = bins }
+base columns rows depth bins = record { columns = columns; rows = rows; depth = depth; kernel = 4; black = 0; white = 255; bins = bins }
 
 -- 9 by 5, N = 2, of test_calls; piece A, 3 by 3, N = 1, of test_files
 pub faults_exact : Exact (base 9 5 2 (3 ∷ 2 ∷ 1 ∷ 0 ∷ 0 ∷ 0 ∷ 0 ∷ [])) × Exact (base 3 3 1 (10 ∷ 4 ∷ 0 ∷ 0 ∷ 0 ∷ 0 ∷ 0 ∷ []))
-unfolding all_below side_ok size_ok depth_ok divides kernel_ok slot_ok bins_ok
+unfolding all_below side_ok size_ok depth_ok divides kernel_ok black_white_ok slot_ok bins_ok
 faults_exact = (tt, tt)

@@ -2,7 +2,7 @@
 // Kept beside bale's: the tests share no code with the decoding they test.
 ghost use Rattle.std.specs.Prelude.{◌≡◌, ◌+◌, get_or};
 ghost use Rattle.mathematics.specs.Definitions.Tables.{tabulate};
-ghost use Rattle.test_support.specs.Definitions.Numbers.{unsigned16, unsigned32, signed16, signed32, settings};
+ghost use Rattle.test_support.specs.Definitions.Numbers.{unsigned16, unsigned32, signed16, signed32, settings, full_settings};
 
 use crate::reading::rest;
 use pyramid::Settings;
@@ -50,7 +50,7 @@ pub fn signed32_at(bytes: &[u8], at: usize) -> i32
     unsigned32_at(bytes, at).cast_signed()
 }
 
-// C, R, N, k and the seven bins, slot 0 first: 22 bytes.
+// C, R, N, k and the seven bins, slot 0 first: 22 bytes. Black is 0 and white is 255.
 pub fn settings_of(bytes: &[u8]) -> Settings
     ensures { result ≡ settings bytes.now }
 {
@@ -59,6 +59,23 @@ pub fn settings_of(bytes: &[u8]) -> Settings
         rows: unsigned16_at(bytes, 2),
         depth: unsigned16_at(bytes, 4),
         kernel: unsigned16_at(bytes, 6),
+        black: 0,
+        white: 255,
         bins: array::from_fn(|slot| unsigned16_at(bytes, 8 + 2 * slot)),
+    }
+}
+
+// C, R, N, k, black, white and the seven bins: 26 bytes.
+pub fn full_settings_of(bytes: &[u8]) -> Settings
+    ensures { result ≡ full_settings bytes.now }
+{
+    Settings {
+        columns: unsigned16_at(bytes, 0),
+        rows: unsigned16_at(bytes, 2),
+        depth: unsigned16_at(bytes, 4),
+        kernel: unsigned16_at(bytes, 6),
+        black: unsigned16_at(bytes, 8),
+        white: unsigned16_at(bytes, 10),
+        bins: array::from_fn(|slot| unsigned16_at(bytes, 12 + 2 * slot)),
     }
 }

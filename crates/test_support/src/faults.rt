@@ -2,7 +2,7 @@
 ghost use Rattle.std.specs.Prelude.{◌≡◌, ℕ, Bool, cond, ◌*◌, ◌/◌, ◌%◌, ◌<◌, min, Option, Some, slice_get, take};
 ghost use Rattle.std.specs.List.{find};
 ghost use Rattle.test_support.specs.Definitions.FaultSets.{chosen, member, first, answer_with, place, variant_at, variant_of};
-ghost use Rattle.test_support.specs.Definitions.FaultySettings.{outside, side_with, with_sides, with_depth, with_kernel, with_bins, with_faults};
+ghost use Rattle.test_support.specs.Definitions.FaultySettings.{outside, side_with, with_sides, with_depth, with_kernel, with_black_white, with_bins, with_faults};
 ghost use Rattle.test_support.specs.Definitions.Tallies.{tallied};
 
 use crate::reporting::Tally;
@@ -105,13 +105,14 @@ impl<'a> Faults<'a> {
         }
     }
 
-    // Settings with those of the faults of a size, a depth, columns, rows, a kernel and a bin that are in the set.
+    // Settings with those of the faults of a size, a depth, columns, rows, a kernel, black and white, and a bin that are in the set.
     pub fn put_in(&self, s: Settings) -> Settings
         ensures { result ≡ with_faults s (chosen self.now.bits self.now.table.now) self.now.variant }
     {
         let d = with_depth(s, self.has(Refusal::Depth));
         let b = with_bins(d, self.variant_of(Refusal::Bin));
-        let k = with_kernel(b, self.variant_of(Refusal::Kernel));
+        let g = with_black_white(b, self.variant_of(Refusal::BlackWhite));
+        let k = with_kernel(g, self.variant_of(Refusal::Kernel));
         let size = self.variant_of(Refusal::Size);
         with_sides(k, size, self.has(Refusal::Columns), self.has(Refusal::Rows))
     }
@@ -216,6 +217,20 @@ fn with_kernel(s: Settings, fault: Option<Variant>) -> Settings
         None => s.kernel,
     };
     Settings { kernel, ..s }
+}
+
+// A black that is white, or above white; a white above 255.
+fn with_black_white(s: Settings, fault: Option<Variant>) -> Settings
+    ensures { result ≡ with_black_white s fault }
+{
+    let (black, white) = match fault {
+        Some(Variant::First) => (s.white, s.white),
+        Some(Variant::Second) => (s.black, 256),
+        Some(Variant::Third) => (s.white.saturating_add(1), s.white),
+        Some(Variant::Fourth) => (s.black, 65535),
+        None => (s.black, s.white),
+    };
+    Settings { black, white, ..s }
 }
 
 // No bin in slot 0; too large a bin in the slot of the depth, in the slot after it, and in the last.

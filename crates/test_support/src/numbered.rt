@@ -1,6 +1,7 @@
 // Answers that another implementation's data name by a number: 0 where a call is accepted, else the number of the refusal.
 ghost use Rattle.std.specs.Prelude.{◌≡◌, ◌≤◌, ◌<◌, Some, None};
 ghost use Rattle.refusals.specs.Definitions.Outcomes.{outcome};
+ghost use Rattle.refusals.specs.Checks.Numbers.{greatest};
 
 use refusals::Refusal;
 
@@ -9,8 +10,8 @@ use refusals::Refusal;
 // What a number stands for: this value, or a refusal; nothing where the documents have no such number.
 #[tactic(auto, unfolding(refusals::specs::Definitions::Outcomes::outcome))]
 pub fn answer_of<T: Copy>(number: u16, value: T) -> Option<Result<T, Refusal>>
-    ensures known { number ≤ 18 → result ≡ Some (outcome number value) }
-    ensures unknown { 18 < number → result ≡ None }
+    ensures known { number ≤ greatest → result ≡ Some (outcome number value) }
+    ensures unknown { greatest < number → result ≡ None }
 {
     let refusal = match number {
         0 => return Some(Ok(value)),
@@ -32,6 +33,8 @@ pub fn answer_of<T: Copy>(number: u16, value: T) -> Option<Result<T, Refusal>>
         16 => Refusal::Header,
         17 => Refusal::Greatest,
         18 => Refusal::PixelCount,
+        19 => Refusal::BlackWhite,
+        20 => Refusal::Pixel,
         _ => return None,
     };
     Some(Err(refusal))

@@ -2,7 +2,7 @@
 use Rattle.std.specs.Prelude.{Bool, cond, List, ℕ, ◌+◌, ◌-◌, min, set, replicate, Option, None, Some}
 use Rattle.pyramid.specs.declared.Settings.{Settings}
 use Rattle.refusals.specs.declared.Refusal.{Refusal}
-use Rattle.refusals.specs.declared.Refusal.TheVariants.{Size, Kernel, Bin, Depth, Columns, Rows}
+use Rattle.refusals.specs.declared.Refusal.TheVariants.{Size, Kernel, Bin, Depth, Columns, Rows, BlackWhite}
 use Rattle.test_support.specs.declared.faults.Variant.{Variant}
 use Rattle.test_support.specs.declared.faults.Variant.TheVariants.{First, Second, Third, Fourth}
 use Rattle.test_support.specs.Definitions.FaultSets.{member, variant_of}
@@ -44,12 +44,14 @@ module _ (s : Settings) where
         rows = side_with s.rows (in_rows size) rows;
         depth = s.depth;
         kernel = s.kernel;
+        black = s.black;
+        white = s.white;
         bins = s.bins;
       }
 
   -- the smallest depth above 6, on the size whose sides less 1 its power divides, with a bin in every slot: no other rule is broken
   abbrev pub with_depth : Settings
-  with_depth = record { columns = 129; rows = 129; depth = 7; kernel = s.kernel; bins = replicate 7 1 }
+  with_depth = record { columns = 129; rows = 129; depth = 7; kernel = s.kernel; black = s.black; white = s.white; bins = replicate 7 1 }
 
   -- kernels below and above
   abbrev pub faulty_kernel : Option Variant → ℕ
@@ -60,7 +62,39 @@ module _ (s : Settings) where
   faulty_kernel None = s.kernel
 
   abbrev pub with_kernel : Option Variant → Settings
-  with_kernel fault = record { columns = s.columns; rows = s.rows; depth = s.depth; kernel = faulty_kernel fault; bins = s.bins }
+  with_kernel fault =
+      record {
+        columns = s.columns;
+        rows = s.rows;
+        depth = s.depth;
+        kernel = faulty_kernel fault;
+        black = s.black;
+        white = s.white;
+        bins = s.bins;
+      }
+
+  -- a black that is white, or above white; a white above 255
+  abbrev pub faulty_black : Option Variant → ℕ
+  faulty_black (Some First) = s.white
+  faulty_black (Some Third) = more s.white
+  faulty_black _ = s.black
+
+  abbrev pub faulty_white : Option Variant → ℕ
+  faulty_white (Some Second) = 256
+  faulty_white (Some Fourth) = 65535
+  faulty_white _ = s.white
+
+  abbrev pub with_black_white : Option Variant → Settings
+  with_black_white fault =
+      record {
+        columns = s.columns;
+        rows = s.rows;
+        depth = s.depth;
+        kernel = s.kernel;
+        black = faulty_black fault;
+        white = faulty_white fault;
+        bins = s.bins;
+      }
 
   -- no bin in slot 0; too large a bin in the slot of the depth, in the slot after it, and in the last: all faults at any depth
   abbrev pub faulty_bins : Option Variant → List ℕ
@@ -71,12 +105,22 @@ module _ (s : Settings) where
   faulty_bins None = s.bins
 
   abbrev pub with_bins : Option Variant → Settings
-  with_bins fault = record { columns = s.columns; rows = s.rows; depth = s.depth; kernel = s.kernel; bins = faulty_bins fault }
+  with_bins fault =
+      record {
+        columns = s.columns;
+        rows = s.rows;
+        depth = s.depth;
+        kernel = s.kernel;
+        black = s.black;
+        white = s.white;
+        bins = faulty_bins fault;
+      }
 
--- the settings with each of the faults of a depth, a bin, a kernel, a size, columns and rows that a list has
+-- the settings with each of the faults of a depth, a bin, black and white, a kernel, a size, columns and rows that a list has
 abbrev pub with_faults : Settings → List Refusal → Variant → Settings
 with_faults s faults variant =
     let d = cond (member Depth faults) (with_depth s) s in
     let b = with_bins d (variant_of Bin faults variant) in
-    let k = with_kernel b (variant_of Kernel faults variant) in
+    let g = with_black_white b (variant_of BlackWhite faults variant) in
+    let k = with_kernel g (variant_of Kernel faults variant) in
     with_sides k (variant_of Size faults variant) (member Columns faults) (member Rows faults)

@@ -20,7 +20,7 @@ module _ (bytes : List ℕ) where
   abbrev pub signed32 : ℕ → ℤ
   signed32 at = to_z w32 (unsigned32 at)
 
-  -- C, R, N, k and the seven bins, slot 0 first, each of 16 bits
+  -- C, R, N, k and the seven bins, slot 0 first, each of 16 bits; black is 0 and white is 255
   abbrev pub settings : Settings
   settings =
       record {
@@ -28,5 +28,20 @@ module _ (bytes : List ℕ) where
         rows = unsigned16 2;
         depth = unsigned16 4;
         kernel = unsigned16 6;
+        black = 0;
+        white = 255;
         bins = tabulate 7 (λ slot. unsigned16 (8 + 2 * slot));
+      }
+
+  -- C, R, N, k, black, white and the seven bins
+  abbrev pub full_settings : Settings
+  full_settings =
+      record {
+        columns = unsigned16 0;
+        rows = unsigned16 2;
+        depth = unsigned16 4;
+        kernel = unsigned16 6;
+        black = unsigned16 8;
+        white = unsigned16 10;
+        bins = tabulate 7 (λ slot. unsigned16 (12 + 2 * slot));
       }
