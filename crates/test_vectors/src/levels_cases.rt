@@ -1,5 +1,5 @@
-// The cases of the file `levels`: a rebuilding from levels that no coding made, accepted or refused. A case has its indices,
-// the answer and, if it is accepted, the values and the picture.
+// The cases of the file `levels`, and of that with black and white: a rebuilding from levels that no coding made, accepted or refused. A case
+// has its indices, the answer and, if it is accepted, the values and the picture.
 use crate::parts::{Finding, Part, cut};
 use crate::rebuilding;
 use crate::rebuilding::Case;

@@ -9,45 +9,54 @@ mod pyramid_cases;
 mod rebuilding;
 mod shape;
 
-use parts::Finding;
+use cases::Form;
 use pyramid::Manner;
-use shape::Shape;
-use std::fs::File;
 use std::{fs, io};
 use test_support::reporting;
 
-// Runs the cases of a file by their check and writes its line.
+// What the cases of a file hold: a coding in a manner and the rebuilding from it, or a rebuilding from levels that no coding made.
+#[derive(Clone, Copy)]
+enum Kind {
+    Coding(Manner),
+    Rebuilding,
+}
+
+// The files, and how their cases say settings.
+const FILES: [(&str, Form, Kind); 6] = [
+    ("pyramid.bin", Form::Short, Kind::Coding(Manner::OpenLoop)),
+    ("levels.bin", Form::Short, Kind::Rebuilding),
+    ("closed.bin", Form::Short, Kind::Coding(Manner::ClosedLoop)),
+    (
+        "pyramid_greys.bin",
+        Form::Greys,
+        Kind::Coding(Manner::OpenLoop),
+    ),
+    ("levels_greys.bin", Form::Greys, Kind::Rebuilding),
+    (
+        "closed_greys.bin",
+        Form::Greys,
+        Kind::Coding(Manner::ClosedLoop),
+    ),
+];
+
+// Runs the cases of a file and writes its line.
 // Kept: what it shares with the `report` of the other programs is opening a file, and a line where that fails. A function of test_support
 // that does it would be the only one there of which no clause can say anything, since none speaks of files.
-fn report<C: Fn(&mut File, Shape) -> io::Result<Option<Finding>>>(
-    rt: &HostRuntime,
-    path: &str,
-    check: C,
-) -> io::Result<()>
-    requires { C.IsAlwaysCallable check }
-{
+fn report(rt: &HostRuntime, path: &str, form: Form, kind: Kind) -> io::Result<()> {
     let Ok(mut data) = fs::open(rt, path) else {
         return println!(rt; "{path}: cannot be opened");
     };
-    let tally = cases::check_all(&mut data, check)?;
+    let tally = cases::check_all(&mut data, form, |data, z| match kind {
+        Kind::Coding(manner) => pyramid_cases::check_read(data, z, manner),
+        Kind::Rebuilding => levels_cases::check_read(data, z),
+    })?;
     reporting::print_cases(&mut rt.stdout(), path, &tally)?;
     Ok(())
 }
 
 fn main(rt: HostRuntime) -> io::Result<()> {
-    report(
-        &rt,
-        "pyramid.bin",
-        |data, z| pyramid_cases::check_read(data, z, Manner::OpenLoop),
-    )?;
-    report(
-        &rt,
-        "levels.bin",
-        |data, z| levels_cases::check_read(data, z),
-    )?;
-    report(
-        &rt,
-        "closed.bin",
-        |data, z| pyramid_cases::check_read(data, z, Manner::ClosedLoop),
-    )
+    for &(path, form, kind) in &FILES {
+        report(&rt, path, form, kind)?;
+    }
+    Ok(())
 }

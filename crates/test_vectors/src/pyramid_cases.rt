@@ -1,5 +1,6 @@
-// The cases of the files `pyramid` and `closed`: a picture; the indices and averages of its coding; the values and the picture that are
-// rebuilt from these indices; the bounds. Closed-loop there are no averages, and the values have 16 bits. Both calls are accepted.
+// The cases of the files `pyramid` and `closed`, and of those that have black and white too: a picture; the indices and averages of its
+// coding; the values and the picture that are rebuilt from these indices; the bounds. Closed-loop there are no averages, and the values have
+// 16 bits. Both calls are accepted.
 ghost use Rattle.std.specs.Prelude.{◌≤◌};
 
 use crate::parts::{Call, Finding, Part, cut};
