@@ -49,6 +49,14 @@ module _ (s : Settings) where
       by true = (omega arith, omega arith)
       by false = (omega arith, omega arith)
 
+  pub count_four : (shape_count s ≡ 6 → ⊥) → shape_count s ≡ 4
+  unfolding shape_count
+  count_four = by (every_grey s)
+    where
+      by : (every : Bool) → (count_by every ≡ 6 → ⊥) → count_by every ≡ 4
+      by true other = refl
+      by false other = absurd (other refl)
+
   pub every_is : T (every_grey s) → (s.black ≡ 0) × (s.white ≡ 255)
   every_is t = let (black, white) = both (eqb s.black 0) (eqb s.white 255) t in (eqb→eq s.black 0 black, eqb→eq s.white 255 white)
 

@@ -6,6 +6,8 @@ pub mod Sections
 pub mod LevelTrips
 pub mod ReadingTrips
 pub mod Forms
+pub mod OldReaders
+pub mod ShapeSection
 pub mod FileLengths
 pub mod AcceptedFiles
 pub mod SettingsTrips

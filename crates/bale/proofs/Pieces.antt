@@ -28,7 +28,6 @@ use Rattle.bale.proofs.WordLaws.{put_splice}
 use Rattle.bale.proofs.WordLists.{indices_part, length-words, words_append, length-words_at, get_or-words_at}
 use Rattle.bale.proofs.After.{levels_after}
 use Rattle.bale.proofs.LevelTrips.{length_level, length_levels, length_indices}
-use Rattle.bale.proofs.Forms.{numbers_by, shape_numbers, length_shape_numbers}
 use Rattle.bale.proofs.FileLengths.{length-bins_from}
 
 -- ---- a piece right after a piece
@@ -68,27 +67,16 @@ module _ (ns l : List ℕ) where
 
 -- ---- the sections of numbers: a count, and then these
 
--- the shape's count and its numbers
-pub shape_words : Settings → List ℕ
-shape_words s = shape_count s ∷ shape_numbers s
-
-pub length_shape_words : (s : Settings) → length (shape_words s) ≡ shape_count s + 1
-unfolding shape_words
-length_shape_words s = omega (arith, length_shape_numbers s)
-
--- they are what the count says of all six
-pub shape_cut : (s : Settings) {n : ℕ} → n ≡ shape_count s → take (n + 1) (n ∷ s.columns ∷ s.rows ∷ s.depth ∷ s.kernel ∷ s.black ∷ s.white ∷ []) ≡ shape_words s
-unfolding shape_words shape_count numbers_by
-shape_cut s e = rw e (by (every_grey s))
+-- the shape's count and its first four numbers, and then black and white where the count is 6
+pub shape_whole : (s : Settings) {n : ℕ} {start greys : List ℕ} → n ≡ shape_count s → start ≡ words (n ∷ s.columns ∷ s.rows ∷ s.depth ∷ s.kernel ∷ [])
+    → (n ≡ 6 → greys ≡ words (s.black ∷ s.white ∷ [])) → ((n ≡ 6 → ⊥) → greys ≡ []) → start ++ greys ≡ shape_section s
+unfolding shape_section numbers_section words le16 shape_count
+shape_whole s {n} {start} {greys} e p six four = by (every_grey s) e
   where
-    by : (every : Bool)
-        → take (cond every 4 6 + 1) (cond every 4 6 ∷ s.columns ∷ s.rows ∷ s.depth ∷ s.kernel ∷ s.black ∷ s.white ∷ []) ≡ cond every 4 6 ∷ numbers_by s every
-    by true = refl
-    by false = refl
-
-pub shape_whole : (s : Settings) {w : List ℕ} → w ≡ words (shape_words s) → w ≡ shape_section s
-unfolding shape_section numbers_section words numbers_by shape_words
-shape_whole s p = p ∙ rw (length_shape_numbers s) refl
+    by : (every : Bool) → n ≡ cond every 4 6
+        → start ++ greys ≡ numbers_section (s.columns ∷ s.rows ∷ s.depth ∷ s.kernel ∷ cond every [] (s.black ∷ s.white ∷ []))
+    by true e = rw (p, four (λ f. omega (arith, e, f)), e) refl
+    by false e = rw (p, six e, e) refl
 
 pub numbers_whole : (k : ℕ) (ns : List ℕ) {count w : List ℕ} → k ≡ length ns → count ≡ le16 k → w ≡ words ns → count ++ w ≡ numbers_section ns
 unfolding numbers_section

@@ -31,4 +31,5 @@ unfolding size odd lt eq le of_fields of_bits to_bits all_below all tabulate sid
 worked_files = record {
   piece_file = record { written = refl; checked = refl; read = lent_read _ refl };
   wide_file = record { written = refl; checked = refl; read = lent_read _ refl };
+  grey_file = record { written = refl; checked = refl; read = lent_read _ refl };
 }

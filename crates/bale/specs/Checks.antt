@@ -4,3 +4,4 @@ pub mod Totality
 pub mod Numbers
 pub mod Conditions
 pub mod Refused
+pub mod ShapeSection

@@ -1,2 +1,3 @@
 pub mod RoundTrips
 pub mod Archive
+pub mod OldReaders

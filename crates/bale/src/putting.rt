@@ -16,17 +16,27 @@ ghost use Rattle.bale.specs.Definitions.Calls.{write_refusal};
 use crate::{Code, Note, places, writing};
 use pyramid::{Settings, Shape};
 
-// Black and white come last, so that of four numbers those before them are written.
+// Numbers, one after the other.
+fn put_numbers(numbers: &[u16], bytes: &mut [u8])
+    requires { length bytes.old ≡ 2 * length numbers.now }
+    ensures { bytes.new ≡ words numbers.now }
+{
+    for (i, n) in numbers.iter().enumerate() {
+        bytes[2 * i..2 * i + 2].copy_from_slice(&n.to_le_bytes());
+    }
+}
+
+// The shape: its count and four numbers, and then black and white where they are not 0 and 255.
+// Kept: two puts of arrays whose lengths are known. Of one array that is cut by the count, the compiler makes a call of `memcpy`.
 fn put_shape(s: Settings, section: &mut [u8])
     requires { length section.old ≡ after_shape (shape_count s) }
     ensures { section.new ≡ shape_section s }
 {
     let count = places::shape_count(s);
-    let numbers = [
-        count, s.columns, s.rows, s.depth, s.kernel, s.black, s.white,
-    ];
-    for (i, n) in numbers[..count as usize + 1].iter().enumerate() {
-        section[2 * i..2 * i + 2].copy_from_slice(&n.to_le_bytes());
+    let (start, greys) = section.split_at_mut(10);
+    put_numbers(&[count, s.columns, s.rows, s.depth, s.kernel], start);
+    if count == 6 {
+        put_numbers(&[s.black, s.white], greys);
     }
 }
 

@@ -1,4 +1,5 @@
 pub mod Given
+pub mod Arrays
 pub mod FileAnswers
 pub mod PictureAnswers
 pub mod CodedNotes

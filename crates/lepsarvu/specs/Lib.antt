@@ -1,2 +1,3 @@
 pub mod Definitions
 pub mod Inner
+pub mod Checks

@@ -24,7 +24,7 @@ pub mod pictures;
 pub(crate) fn settings_of(numbers: &[u16; 13]) -> Settings
     ensures { result ≡ settings_of numbers.now }
 {
-    let n = *numbers;
+    let n = numbers;
     Settings {
         columns: n[0],
         rows: n[1],

@@ -20,6 +20,7 @@ pub mod BoundSlots
 pub mod WorkedPieces
 pub mod WorkedPasses
 pub mod WorkedLoops
+pub mod WorkedGreys
 pub mod TapSums
 pub mod ColumnSums
 pub mod LentParts

@@ -8,3 +8,4 @@ pub mod SizeAtFault
 pub mod WorkedPasses
 pub mod WorkedLoops
 pub mod ShownGreys
+pub mod WorkedGreys

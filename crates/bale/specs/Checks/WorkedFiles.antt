@@ -1,5 +1,6 @@
--- Two small files, byte by byte: document 01's file of piece A, and one of our own with fewer rows than columns and no level above level 0,
--- put together by hand from document 01's "Bale file". Assumes nothing.
+-- Small files, byte by byte: document 01's file of piece A, and two of our own with fewer rows than columns and no level above level 0, put
+-- together by hand from document 01's "Bale file": one with black 0 and white 255, one with black 16 and white 235 (document 02, P5).
+-- Assumes nothing.
 use Rattle.std.specs.Prelude.{◌≡◌, List, [], ◌∷◌, ℕ, ℤ, pos, negsuc, length}
 use Rattle.std.specs.Float.{binary32}
 use Rattle.std.specs.Float.Ieee.{of_bits}
@@ -49,6 +50,19 @@ file_wide =
     0x02 ∷ 0x00 ∷ 0x02 ∷ 0x09 ∷ 0x00 ∷ 0x00 ∷ 0x00 ∷ 0x01 ∷ 0x00 ∷ 0x00 ∷ 0xC8 ∷ 0x42 ∷
     0x06 ∷ 0x00 ∷ 0x01 ∷ 0x00 ∷ 0xFE ∷ 0xFF ∷ 0x03 ∷ 0x00 ∷ 0xFC ∷ 0xFF ∷ 0x05 ∷ 0x00 ∷ 0xFA ∷ 0xFF ∷ []
 
+-- ---- the same with black 16 and white 235, whose bytes follow k: 44 bytes
+
+abbrev pub grey : Settings
+grey = record { columns = 3; rows = 2; depth = 0; kernel = 5; black = 16; white = 235; bins = 7 ∷ 0 ∷ 0 ∷ 0 ∷ 0 ∷ 0 ∷ 0 ∷ [] }
+
+abbrev pub file_grey : List ℕ
+file_grey =
+    0x06 ∷ 0x00 ∷ 0x03 ∷ 0x00 ∷ 0x02 ∷ 0x00 ∷ 0x00 ∷ 0x00 ∷ 0x05 ∷ 0x00 ∷ 0x10 ∷ 0x00 ∷ 0xEB ∷ 0x00 ∷
+    0x01 ∷ 0x00 ∷ 0x07 ∷ 0x00 ∷
+    0x02 ∷ 0x00 ∷ 0x02 ∷ 0x09 ∷ 0x00 ∷ 0x00 ∷ 0x00 ∷ 0x01 ∷ 0x00 ∷ 0x00 ∷ 0xC8 ∷ 0x42 ∷
+    0x06 ∷ 0x00 ∷ 0x01 ∷ 0x00 ∷ 0xFE ∷ 0xFF ∷ 0x03 ∷ 0x00 ∷ 0xFC ∷ 0xFF ∷ 0x05 ∷ 0x00 ∷ 0xFA ∷ 0xFF ∷ []
+
 pub record WorkedFiles : Type 0 where
   pub piece_file : WorkedFile piece_a note_a levels_a file_a
   pub wide_file : WorkedFile wide note_wide levels_wide file_wide
+  pub grey_file : WorkedFile grey note_wide levels_wide file_grey
