@@ -17,4 +17,4 @@ pub returns-else-count-eq6 : goal.returns-else-count-eq6
 returns-else-count-eq6 c =
     let four = count_four c.args.s (λ e. c.if-count-eq6.false (c.shape_count-count.ensures.0 ∙ e)) in
     shape_whole c.args.s c.shape_count-count.ensures.0 c.put_numbers.ensures (λ six. absurd (c.if-count-eq6.false six))
-    (λ _. c.split_at_mut-start.ensures.back ∙ drop_of_length-le c.args.section.now (omega (arith, c.requires, four)))
+    (λ _. c.split_at_mut-start.ensures.back ∙ drop_of_length-le c.args.section.now {i = 10} (omega (arith, c.requires, four)))
