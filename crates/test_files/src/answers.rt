@@ -1,4 +1,5 @@
 // What a call is to answer, a value or a refusal, and how its answer differs.
+use crate::forms::Form;
 use crate::parts::{Finding, Part};
 use bale::{Bale, Code, Reading};
 use pyramid::Settings;
@@ -25,20 +26,22 @@ fn code_in(bytes: &[u8]) -> Code {
 }
 
 // The settings and the readings that a case says, and its indices.
-pub(crate) fn held_in<'a>(said: &[u8], indices: &'a [u8]) -> Held<'a> {
+pub(crate) fn held_in<'a>(form: Form, said: &[u8], indices: &'a [u8]) -> Held<'a> {
+    let codes = rest(said, form.length());
     Held {
-        settings: decoding::settings_of(said),
-        before_drier: code_in(rest(said, 22)),
-        at_press: code_in(rest(said, 27)),
+        settings: form.settings(said),
+        before_drier: code_in(codes),
+        at_press: code_in(rest(codes, 5)),
         indices,
     }
 }
 
-// C, R, N, k and then the bins.
-fn numbers(s: Settings) -> [u16; 11] {
+// C, R, N, k, black, white and then the bins.
+fn numbers(s: Settings) -> [u16; 13] {
     let b = s.bins;
     [
-        s.columns, s.rows, s.depth, s.kernel, b[0], b[1], b[2], b[3], b[4], b[5], b[6],
+        s.columns, s.rows, s.depth, s.kernel, s.black, s.white, b[0], b[1], b[2], b[3], b[4], b[5],
+        b[6],
     ]
 }
 

@@ -1,4 +1,5 @@
 // The cases of the vectors one after the other.
+use crate::forms::Form;
 use crate::parts::{Finding, Part, cut};
 use crate::readers::Case;
 use crate::{answers, readers, writers};
@@ -32,7 +33,7 @@ fn head_of(bytes: &[u8]) -> Head {
 }
 
 // Both readers, and for an accepted file the writer.
-fn check_file(c: Case) -> Option<Finding> {
+pub(crate) fn check_file(c: Case) -> Option<Finding> {
     let read = readers::check_checking(c).or(readers::check_lent(c));
     match c.expected {
         Ok(_) => read.or(writers::check_written(c)),
@@ -43,19 +44,20 @@ fn check_file(c: Case) -> Option<Finding> {
 // Reads what the case says of a file that is accepted: its settings and readings, and then its indices, of at most 44,718 bytes.
 fn check_accepted<R: Read>(
     data: &mut R,
+    form: Form,
     nodes: Option<u16>,
     file: &[u8],
 ) -> io::Result<Option<Finding>> {
-    let mut said: [u8; 32] = [0; 32];
+    let mut said: [u8; 36] = [0; 36];
     let mut indices: [u8; 44718] = [0; 44718];
-    let Some(said) = read_part(data, &mut said, 32)? else {
+    let Some(said) = read_part(data, &mut said, form.length() + 10)? else {
         return Ok(Some(cut()));
     };
     let length = 2 * usize::from(nodes.unwrap_or(0));
     let Some(indices) = read_part(data, &mut indices, length)? else {
         return Ok(Some(cut()));
     };
-    let expected = Ok(answers::held_in(said, indices));
+    let expected = Ok(answers::held_in(form, said, indices));
     Ok(check_file(Case {
         expected,
         file,
@@ -76,13 +78,13 @@ fn check_refused(refusal: Refusal, nodes: Option<u16>, file: &[u8]) -> Option<Fi
 const MOST: usize = 65594;
 
 // Reads the case that starts so.
-fn check_case<R: Read>(data: &mut R, h: Head) -> io::Result<Option<Finding>> {
+fn check_case<R: Read>(data: &mut R, form: Form, h: Head) -> io::Result<Option<Finding>> {
     let mut file: [u8; MOST] = [0; MOST];
     let Some(file) = read_part(data, &mut file, h.length)? else {
         return Ok(Some(cut()));
     };
     match h.answer {
-        Ok(Ok(())) => check_accepted(data, h.nodes, file),
+        Ok(Ok(())) => check_accepted(data, form, h.nodes, file),
         Ok(Err(refusal)) => Ok(check_refused(refusal, h.nodes, file)),
         Err(unknown) => Ok(Some(unknown)),
     }
@@ -90,14 +92,14 @@ fn check_case<R: Read>(data: &mut R, h: Head) -> io::Result<Option<Finding>> {
 
 // All cases to the end of the vectors.
 // Kept: what it shares with test_vectors is `check_cases`; how long a start is, what a cut case is found to be, and the check differ.
-pub(crate) fn check_all<R: Read>(data: &mut R) -> io::Result<Tally<Finding>> {
+pub(crate) fn check_all<R: Read>(data: &mut R, form: Form) -> io::Result<Tally<Finding>> {
     let mut tally = Tally::new();
     let mut start: [u8; 8] = [0; 8];
     check_cases(
         data,
         &mut start,
         Some(cut()),
-        |data, start| check_case(data, head_of(start)),
+        |data, start| check_case(data, form, head_of(start)),
         |found| tally.count(found),
     )?;
     Ok(tally)

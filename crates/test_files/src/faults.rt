@@ -8,13 +8,14 @@ use refusals::Refusal;
 use test_support::faults::{Faults, Variant, check_sets};
 use test_support::reporting::Tally;
 
-// The faults in their order: six of the settings, then the writer's own.
-const FAULTS: [Refusal; 10] = [
+// The faults in their order: seven of the settings, then the writer's own.
+const FAULTS: [Refusal; 11] = [
     Refusal::Size,
     Refusal::Depth,
     Refusal::Columns,
     Refusal::Rows,
     Refusal::Kernel,
+    Refusal::BlackWhite,
     Refusal::Bin,
     Refusal::Reading,
     Refusal::LevelsLength,
@@ -49,7 +50,7 @@ fn lent_levels(fault: Option<Variant>) -> [i16; 14] {
 
 // The size of a file of settings with those of the faults that are the settings'.
 fn check_size(faults: Faults, s: Settings) -> Option<Finding> {
-    writers::check_size(s, faults.among_first(6).answer(58))
+    writers::check_size(s, faults.among_first(7).answer(58))
 }
 
 // Lends the first places of the levels, or with their fault one fewer or more; and the first bytes of a buffer, as many as the file
@@ -74,7 +75,7 @@ fn check_set(faults: Faults) -> Option<Finding> {
     check_size(faults, written.settings).or(found)
 }
 
-// The 1,024 sets.
+// The 2,048 sets.
 pub(crate) fn check_all() -> Tally<Finding> {
-    check_sets(&FAULTS, 1024, |faults| check_set(faults))
+    check_sets(&FAULTS, 2048, |faults| check_set(faults))
 }

@@ -4,8 +4,8 @@ use test_support::reporting;
 use test_support::reporting::Spot;
 use test_support::rooms::Room;
 
-// The largest file that is accepted has 44,770 bytes and 22,359 nodes.
-pub(crate) const MOST_BYTES: usize = 44770;
+// The largest file that is accepted has 44,774 bytes and 22,359 nodes.
+pub(crate) const MOST_BYTES: usize = 44774;
 
 pub(crate) const MOST_PLACES: usize = 22360;
 

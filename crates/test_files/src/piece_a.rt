@@ -6,12 +6,14 @@ use pyramid::Settings;
 
 pub(crate) const NODES: usize = 13;
 
-// 3 by 3, N = 1, k = 4, bins 10 and 4.
+// 3 by 3, N = 1, k = 4, black 0 and white 255, bins 10 and 4.
 pub(crate) const SETTINGS: Settings = Settings {
     columns: 3,
     rows: 3,
     depth: 1,
     kernel: 4,
+    black: 0,
+    white: 255,
     bins: [10, 4, 0, 0, 0, 0, 0],
 };
 

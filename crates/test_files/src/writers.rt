@@ -59,7 +59,7 @@ fn check_room(room: Room, file: &[u8], w: Written) -> Option<Finding> {
 }
 
 // Kept, the three calls: as in `check_lent` of readers.rt.
-fn check_rooms(file: &[u8], w: Written) -> Option<Finding> {
+pub(crate) fn check_rooms(file: &[u8], w: Written) -> Option<Finding> {
     check_size(w.settings, Ok(file.len()))
         .or(check_room(Room::Exact, file, w))
         .or(check_room(Room::Longer, file, w))
