@@ -8,7 +8,7 @@
 enum { SMALL_CASES = 5000, LARGE_CASES = 300, SMALL_SIDE = 9, LARGE_SIDE = 129, KNOWN = 3000, SLACK = 64 };
 
 /* The most that a call of a function of closed-loop coding, or of PGM files, may take. */
-enum { MOST_CLOSED_LOOP_CODING = 2432, MOST_CLOSED_LOOP_BOUNDS = 128 };
+enum { MOST_CLOSED_LOOP_CODING = 2432, MOST_CLOSED_LOOP_BOUNDS = 192 };
 enum { MOST_PGM_SIZE = 128, MOST_WRITE_PGM = 256, MOST_READ_PGM = 512, MOST_CHECK_PGM = 512 };
 
 /* The most that a call may take, and the least that the deepest one must have been seen to take: its arguments on the
@@ -16,7 +16,7 @@ enum { MOST_PGM_SIZE = 128, MOST_WRITE_PGM = 256, MOST_READ_PGM = 512, MOST_CHEC
 static const struct {
     size_t least, most;
 } LIMITS[FUNCTIONS] = {
-    [CODING] = {8 + 8 + 2 * 516, 2432}, [REBUILDING] = {8 + 8 + 516, 1024}, [LEVEL_BOUNDS] = {8, 128},
+    [CODING] = {8 + 8 + 2 * 516, 2432}, [REBUILDING] = {8 + 8 + 516, 1024}, [LEVEL_BOUNDS] = {8, 192},
     [DEEPEST_DEPTH] = {8, 128},         [TOTAL_NODES] = {8, 128},           [FILE_SIZE] = {8, 128},
     [WRITE_FILE] = {8 + 8, 1280},       [READ_FILE] = {8, 1280},            [CHECK_FILE] = {8, 1280},
     [PGM_SIZE] = {8, MOST_PGM_SIZE},    [WRITE_PGM] = {8 + 8, MOST_WRITE_PGM}, [READ_PGM] = {8, MOST_READ_PGM},
