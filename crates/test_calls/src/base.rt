@@ -1,4 +1,4 @@
-// Lawful settings that the faults are made in: 9 by 5, N = 2, k = 4, bins 3, 2 and 1.
+// Lawful settings that the faults are made in: 9 by 5, N = 2, k = 4, black 16 and white 235, bins 3, 2 and 1.
 use pyramid::Settings;
 
 pub(crate) const BASE: Settings = Settings {
@@ -6,6 +6,8 @@ pub(crate) const BASE: Settings = Settings {
     rows: 5,
     depth: 2,
     kernel: 4,
+    black: 16,
+    white: 235,
     bins: [3, 2, 1, 0, 0, 0, 0],
 };
 

@@ -28,6 +28,13 @@ impl Put {
     }
 }
 
+// A pixel put at a place of the picture before a coding.
+#[derive(Clone, Copy)]
+pub(crate) struct Dot {
+    pub place: usize,
+    pub pixel: u8,
+}
+
 #[derive(Clone, Copy, PartialEq, Eq)]
 pub(crate) struct Buffers {
     pub picture: [u8; 48],
@@ -42,11 +49,16 @@ pub(crate) fn set<T: Copy>(buffer: &mut [T], place: usize, value: T) {
     }
 }
 
+// A pixel that is other at each place, of the greys 16 to 63.
+fn grey_filler(i: usize) -> u8 {
+    byte_filler(i).saturating_add(16)
+}
+
 impl Buffers {
-    // With fillers everywhere; every index is lawful at every bin.
+    // With fillers everywhere; every pixel lies between 16 and 235, every index is lawful at every bin.
     pub(crate) fn filled() -> Self {
         Buffers {
-            picture: array::from_fn(byte_filler),
+            picture: array::from_fn(grey_filler),
             levels: array::from_fn(lawful_index),
             work: array::from_fn(work_filler),
         }
@@ -57,6 +69,15 @@ impl Buffers {
         let mut buffers = self;
         if let Some(put) = put {
             set(&mut buffers.levels, put.place, put.index);
+        }
+        buffers
+    }
+
+    // With a pixel put in the picture.
+    pub(crate) fn dotted(self, dot: Option<Dot>) -> Self {
+        let mut buffers = self;
+        if let Some(dot) = dot {
+            set(&mut buffers.picture, dot.place, dot.pixel);
         }
         buffers
     }

@@ -1,24 +1,25 @@
 // Calls whose outcome is known at every place of every buffer. A call that is refused must leave all as it was; one that is
 // accepted is lent a picture of one grey, or the levels of such a picture.
-use crate::buffers::{Buffers, Put, set};
+use crate::buffers::{Buffers, Dot, Put, set};
 use pyramid::Settings;
 use refusals::Refusal;
 use std::array;
 use test_support::fillers::unlawful_index;
 use test_support::rooms::Lengths;
 
-// What a call is lent, and what it is to answer: settings, how many places of each buffer, and an index that is put in the level buffer
-// first.
+// What a call is lent, and what it is to answer: settings, how many places of each buffer, and an index and a pixel that are put in the level
+// buffer and in the picture first.
 #[derive(Clone, Copy)]
 pub(crate) struct Case {
     pub settings: Settings,
     pub lengths: Lengths,
     pub put: Option<Put>,
+    pub dot: Option<Dot>,
     pub answer: Result<(), Refusal>,
 }
 
 // What a call answers, and what it leaves in the buffers.
-type Outcome = (Result<(), Refusal>, Buffers);
+pub(crate) type Outcome = (Result<(), Refusal>, Buffers);
 
 // The outcome of a call that is lent the first places of the buffers.
 fn outcome<F: FnOnce(&mut [u8], &mut [i16], &mut [i32]) -> Result<(), Refusal>>(
@@ -44,58 +45,56 @@ fn outcome<F: FnOnce(&mut [u8], &mut [i16], &mut [i32]) -> Result<(), Refusal>>(
 }
 
 // Kept: this and the next two name the three calls, which take the buffers in another order; what they do is `outcome`.
-fn coding(s: Settings, n: Lengths, buffers: Buffers) -> Outcome {
+pub(crate) fn coding(s: Settings, n: Lengths, buffers: Buffers) -> Outcome {
     outcome(n, buffers, |picture, levels, work| {
         pyramid::coding(s, picture, levels, work)
     })
 }
 
-fn closed_loop_coding(s: Settings, n: Lengths, buffers: Buffers) -> Outcome {
+pub(crate) fn closed_loop_coding(s: Settings, n: Lengths, buffers: Buffers) -> Outcome {
     outcome(n, buffers, |picture, levels, work| {
         pyramid::closed_loop_coding(s, picture, levels, work)
     })
 }
 
-fn rebuilding(s: Settings, n: Lengths, buffers: Buffers) -> Outcome {
+pub(crate) fn rebuilding(s: Settings, n: Lengths, buffers: Buffers) -> Outcome {
     outcome(n, buffers, |picture, levels, work| {
         pyramid::rebuilding(s, levels, picture, work)
     })
 }
 
 // A picture that is 200 everywhere: so is every average, since the weights of a step sum to 1; every difference is 0.
-const GREY: u8 = 200;
+pub(crate) const GREY: u8 = 200;
 
-// The top: its nodes, its index of 200, and that index times its bin, which is then every value of every level.
+// The top: its nodes, its index of 200, and that index times its bin, which is then every value of every level, and how it is shown.
 #[derive(Clone, Copy)]
 struct Top {
     nodes: usize,
     index: i16,
     value: i32,
+    pixel: u8,
 }
 
 impl Top {
-    // The top's bin is 1 or 255. At 255 the index of 200 is 1, for 255 < 400 and 400 <= 765.
+    // The top's bin is 1 or 255. At 255 the index of 200 is 1, for 255 < 400 and 400 <= 765. No value is shown below black or above white.
     fn of(s: Settings) -> Self {
         let (nodes, bin) = if s.depth == 0 {
             (4, s.bins[0])
         } else {
             (6, s.bins[2])
         };
-        let (index, value) = if bin == 255 { (1, 255) } else { (200, 200) };
+        let (index, value): (i16, u16) = if bin == 255 { (1, 255) } else { (200, 200) };
         Top {
             nodes,
             index,
-            value,
+            value: i32::from(value),
+            pixel: value.max(s.black).min(s.white).min(255) as u8,
         }
     }
 
     // The index of a place: the top comes first.
     fn index_at(self, place: usize) -> i16 {
         if place < self.nodes { self.index } else { 0 }
-    }
-
-    fn pixel(self) -> u8 {
-        if self.value == 255 { 255 } else { GREY }
     }
 }
 
@@ -136,6 +135,11 @@ fn closed(before: Buffers, top: Top, nodes: usize) -> Buffers {
     left
 }
 
+// What a call is lent that is to be refused.
+fn before(case: Case) -> Buffers {
+    Buffers::filled().with(case.put).dotted(case.dot)
+}
+
 // Whether both codings answer and leave what is expected: where they are refused, every place as it was.
 pub(crate) fn coding_gives(case: Case) -> bool {
     let s = case.settings;
@@ -152,7 +156,7 @@ pub(crate) fn coding_gives(case: Case) -> bool {
                 && closed_loop_coding(s, n, before) == (Ok(()), closed(before, top, n.levels))
         }
         Err(refusal) => {
-            let before = Buffers::filled().with(case.put);
+            let before = before(case);
             coding(s, n, before) == (Err(refusal), before)
                 && closed_loop_coding(s, n, before) == (Err(refusal), before)
         }
@@ -165,7 +169,7 @@ fn rebuilt(before: Buffers, top: Top, n: Lengths, put: Option<Put>) -> Buffers {
     let l = n.levels.min(72);
     let p = n.picture.min(48);
     left.work[..l].fill(top.value);
-    left.picture[..p].fill(top.pixel());
+    left.picture[..p].fill(top.pixel);
     if let Some(
         Put {
             place,
@@ -196,7 +200,7 @@ pub(crate) fn rebuilding_gives(case: Case) -> bool {
             rebuilding(s, n, before) == (Ok(()), rebuilt(before, top, n, case.put))
         }
         Err(refusal) => {
-            let before = Buffers::filled().with(case.put);
+            let before = before(case);
             rebuilding(s, n, before) == (Err(refusal), before)
         }
     }

@@ -49,6 +49,8 @@ fn settings(piece: Piece) -> Settings {
         rows: 3,
         depth: 1,
         kernel: piece.kernel,
+        black: 0,
+        white: 255,
         bins,
     }
 }

@@ -8,7 +8,7 @@ use std::array;
 use test_support::reporting::Checks;
 use test_support::rooms::Lengths;
 
-// A setting: C, R, N, k, or the bin of a slot.
+// A setting: C, R, N, k, black, white, or the bin of a slot.
 // Kept: each has a place and a rule of its own, so two matches of an enum, with no case forgotten, are plainer than closures for both.
 #[derive(Clone, Copy)]
 enum Setting {
@@ -16,6 +16,8 @@ enum Setting {
     Rows,
     Depth,
     Kernel,
+    Black,
+    White,
     Bin(usize),
 }
 
@@ -30,6 +32,8 @@ fn with_setting(setting: Setting, value: u16) -> Settings {
             s.bins = [1; 7];
         }
         Setting::Kernel => s.kernel = value,
+        Setting::Black => s.black = value,
+        Setting::White => s.white = value,
         Setting::Bin(slot) => {
             if slot < 7 {
                 s.bins[slot] = value;
@@ -37,6 +41,16 @@ fn with_setting(setting: Setting, value: u16) -> Settings {
         }
     }
     s
+}
+
+// What both codings answer: a grey of 200 is refused where it does not lie between black and white. So are the pixels that a refused coding
+// is lent, 16 to 60: they lie below a black of 234, and most above a white of 17.
+fn coding_answer(s: Settings, answer: Result<(), Refusal>) -> Result<(), Refusal> {
+    let grey = u16::from(calling::GREY);
+    match answer {
+        Ok(()) if grey < s.black || s.white < grey => Err(Refusal::Pixel),
+        _ => answer,
+    }
 }
 
 // The answer of all functions to settings whose bounds, or whose refusal, are given, with buffers of the lengths of the settings
@@ -52,13 +66,17 @@ pub(crate) fn check(t: &mut Checks, s: Settings, bounds: Result<[u16; 7], Refusa
             work: base::NODES,
         },
         put: None,
+        dot: None,
         answer,
     };
     t.check(nodes == answer.map(|()| base::NODES));
     t.check(pyramid::level_bounds(s) == bounds);
     let halves: [u16; 7] = array::from_fn(|slot| s.bins[slot] / 2);
     t.check(pyramid::closed_loop_bounds(s) == answer.map(|()| halves));
-    t.check(calling::coding_gives(case));
+    t.check(calling::coding_gives(Case {
+        answer: coding_answer(s, answer),
+        ..case
+    }));
     t.check(calling::rebuilding_gives(case));
     shapes::check(t, s, answer);
 }
@@ -108,8 +126,8 @@ fn bounds_with(slot: usize, bin: u16) -> [u16; 7] {
     }
 }
 
-// The bounds with a setting in place of the lawful one: 9 by 5, N = 2. No other C, R or N that is tried is lawful. For k = 6, whose
-// multiplier is 1.96, rounded up, the bounds are 3, 1 and 0.
+// The bounds with a setting in place of the lawful one: 9 by 5, N = 2, black 16 and white 235. No other C, R or N that is tried is lawful. For
+// k = 6, whose multiplier is 1.96, rounded up, the bounds are 3, 1 and 0. Black and white change no bound.
 fn bounds_to(setting: Setting, value: u16) -> Result<[u16; 7], Refusal> {
     match (setting, value) {
         (Setting::Columns, _) => Err(refusal_of_side(value, Refusal::Columns)),
@@ -118,6 +136,8 @@ fn bounds_to(setting: Setting, value: u16) -> Result<[u16; 7], Refusal> {
         (Setting::Kernel, 3 | 4 | 5) => Ok(BOUNDS),
         (Setting::Kernel, 6) => Ok([3, 1, 0, 0, 0, 0, 0]),
         (Setting::Kernel, _) => Err(Refusal::Kernel),
+        (Setting::Black, 0..=234) | (Setting::White, 17..=255) => Ok(BOUNDS),
+        (Setting::Black | Setting::White, _) => Err(Refusal::BlackWhite),
         (Setting::Bin(slot), bin) if is_bin(slot, bin) => Ok(bounds_with(slot, bin)),
         (Setting::Bin(_), _) => Err(Refusal::Bin),
     }
@@ -144,6 +164,8 @@ pub(crate) fn all() -> Checks {
     );
     check_each(&mut t, Setting::Depth, &[3, 4, 6, 7, 8, 16, 32, 65535]);
     check_each(&mut t, Setting::Kernel, &[0, 1, 2, 3, 4, 5, 6, 7, 8, 65535]);
+    check_each(&mut t, Setting::Black, &[0, 234, 235, 254, 255, 256, 65535]);
+    check_each(&mut t, Setting::White, &[0, 1, 16, 17, 255, 256, 65535]);
     for slot in 0..7 {
         check_each(&mut t, Setting::Bin(slot), &[0, 1, 255, 256, 65535]);
     }

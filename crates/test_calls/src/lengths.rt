@@ -44,6 +44,7 @@ pub(crate) fn all() -> Checks {
                 work,
             },
             put: None,
+            dot: None,
             answer,
         };
         let rebuilding = Case {

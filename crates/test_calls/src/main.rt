@@ -1,4 +1,4 @@
-// Checks rows of the quantizer and worked pieces of document 01 by calls, and every refusal of both codings and rebuilding in its order, with what it leaves in the lent buffers.
+// Checks rows of the quantizer and worked pieces of documents 01 and 02 by calls, and every refusal of both codings and rebuilding in its order, with what it leaves in the lent buffers.
 #![tactic(auto)]
 
 mod base;
@@ -7,6 +7,7 @@ mod calling;
 mod closed;
 mod combinations;
 mod faults;
+mod greys;
 mod lengths;
 mod pieces;
 mod rows;
@@ -23,6 +24,7 @@ fn main(rt: HostRuntime) -> io::Result<()> {
         ("limits of indices", rows::limits()),
         ("piece A", pieces::piece_a()),
         ("closed loop", closed::pieces()),
+        ("black and white", greys::all()),
         ("sizes", pieces::sizes()),
         ("deepest depth", pieces::deepest_depths()),
         ("index limit", pieces::index_limit()),

@@ -10,25 +10,29 @@ use test_support::fillers::{first_changed, lawful_index, work_filler};
 use test_support::reporting::Checks;
 use test_support::rooms::Lengths;
 
-// The settings of a piece: its bins that are not 0 are the first two at most.
+// The settings of a piece: black is 0 and white is 255, and its bins that are not 0 are the first two at most.
 // Kept: no conversion that a `From` could stand for, but the numbers that the pieces differ in: each of its three uses, written as a struct,
-// would repeat five bins of 0.
+// would repeat black, white and five bins of 0.
 fn settings(columns: u16, rows: u16, depth: u16, kernel: u16, first: u16, second: u16) -> Settings {
     Settings {
         columns,
         rows,
         depth,
         kernel,
+        black: 0,
+        white: 255,
         bins: [first, second, 0, 0, 0, 0, 0],
     }
 }
 
-// 3 by 3, N = 1, k = 4, bins 10 and 4.
+// 3 by 3, N = 1, k = 4, black 0 and white 255, bins 10 and 4.
 const PIECE_A: Settings = Settings {
     columns: 3,
     rows: 3,
     depth: 1,
     kernel: 4,
+    black: 0,
+    white: 255,
     bins: [10, 4, 0, 0, 0, 0, 0],
 };
 
@@ -112,6 +116,7 @@ fn check_smallest(t: &mut Checks) {
             work: 4,
         },
         put: None,
+        dot: None,
         answer: Ok(()),
     };
     let put = Put {
@@ -217,6 +222,7 @@ fn check_refused_index(t: &mut Checks, place: usize, index: i16) {
             work: 5,
         },
         put: Some(Put::unlawful(place, index)),
+        dot: None,
         answer: Err(Refusal::Index),
     };
     t.check(calling::rebuilding_gives(case));

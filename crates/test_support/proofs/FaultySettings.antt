@@ -37,10 +37,10 @@ table = Size ∷ Depth ∷ Columns ∷ Rows ∷ Kernel ∷ BlackWhite ∷ Bin �
 abbrev Exact : Settings → Type 0
 Exact s = T (all_below 128 (λ set. all_below 4 (λ n. same (broken (with_faults s (chosen set table) (variant_at n))) (chosen set table))))
 
-abbrev base : ℕ → ℕ → ℕ → List ℕ → Settings
-base columns rows depth bins = record { columns = columns; rows = rows; depth = depth; kernel = 4; black = 0; white = 255; bins = bins }
+abbrev base : ℕ → ℕ → ℕ → ℕ → ℕ → List ℕ → Settings
+base columns rows depth black white bins = record { columns = columns; rows = rows; depth = depth; kernel = 4; black = black; white = white; bins = bins }
 
--- 9 by 5, N = 2, of test_calls; piece A, 3 by 3, N = 1, of test_files
-pub faults_exact : Exact (base 9 5 2 (3 ∷ 2 ∷ 1 ∷ 0 ∷ 0 ∷ 0 ∷ 0 ∷ [])) × Exact (base 3 3 1 (10 ∷ 4 ∷ 0 ∷ 0 ∷ 0 ∷ 0 ∷ 0 ∷ []))
+-- 9 by 5, N = 2, black 16 and white 235, of test_calls; piece A, 3 by 3, N = 1, black 0 and white 255, of test_files
+pub faults_exact : Exact (base 9 5 2 16 235 (3 ∷ 2 ∷ 1 ∷ 0 ∷ 0 ∷ 0 ∷ 0 ∷ [])) × Exact (base 3 3 1 0 255 (10 ∷ 4 ∷ 0 ∷ 0 ∷ 0 ∷ 0 ∷ 0 ∷ []))
 unfolding all_below side_ok size_ok depth_ok divides kernel_ok black_white_ok slot_ok bins_ok
 faults_exact = (tt, tt)
