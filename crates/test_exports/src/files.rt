@@ -2,10 +2,9 @@
 // Kept: refusals are numbers, for the reason at `expected` in `lent`.
 use crate::handed::Handed;
 use crate::lent::{BEFORE, TALL};
-use crate::parts::{Readings, code};
+use crate::parts::{Coded, Readings, code};
 use crate::writing::Contents;
 use crate::{handed, parts, writing};
-use bale::Code;
 use pyramid::Settings;
 use std::array;
 use test_support::comparing::{first_difference, indices};
@@ -15,19 +14,19 @@ use test_support::reading::rest;
 use test_support::reporting::Checks;
 
 // A fault code of 9 before the drier, 100 percent at the press.
-const SMALL_READINGS: Readings = [
-    Code { kind: 2, number: 9 },
-    Code {
+pub(crate) const SMALL_READINGS: Readings = [
+    Coded { kind: 2, number: 9 },
+    Coded {
         kind: 1,
         number: 0x42C8_0000,
     },
 ];
 
-// The file of 3 by 2, N = 0, k = 5, bin 7, these readings and the indices below; and a byte more.
+// The file of 3 by 2, N = 0, k = 5, every grey, bin 7, these readings and the indices below; and a byte more.
 const SMALL_FILE: [u8; 41] =
     *b"\x04\x00\x03\x00\x02\x00\x00\x00\x05\x00\x01\x00\x07\x00\x02\x00\x02\x09\x00\x00\x00\x01\x00\x00\xC8\x42\x06\x00\x01\x00\xFF\xFF\x00\x01\xB7\xFD\x49\x02\xE0\xFF\x00";
 
-const SMALL_LEVELS: [i16; 7] = [1, -1, 256, -585, 585, -32, 0];
+pub(crate) const SMALL_LEVELS: [i16; 7] = [1, -1, 256, -585, 585, -32, 0];
 
 // Readings, how many of the levels are written into how many bytes, and the answer: the exact bytes, and more; then refusals, each
 // with the next besides.
@@ -91,22 +90,22 @@ pub(crate) fn unset() -> Checks {
     t
 }
 
-// What the readers are to hand out of a file with the small one's parts.
-fn expected(e: Result<(), u16>) -> (u16, Handed) {
-    handed::expected(e, parts::small(7), SMALL_READINGS)
+// What the readers are to hand out of a file with the small one's readings.
+fn expected(e: Result<Settings, u16>) -> (u16, Handed) {
+    handed::expected(e, SMALL_READINGS)
 }
 
-// Reads a file with so many places lent. That leaves the indices, or all places as they were.
+// Reads a file with so many places lent. That leaves the small file's indices, or all places as they were.
 // Kept: `places` is the length of the level buffer that is lent, not of the file. A file, the places and what is expected stay three arguments,
-// since no other function takes them: `check_both` names its file by the byte that is set anew.
-fn check_reading(t: &mut Checks, file: &[u8], places: usize, e: Result<(), u16>) {
+// since no other function takes them.
+pub(crate) fn check_reading(t: &mut Checks, file: &[u8], places: usize, e: Result<Settings, u16>) {
     let before: [i16; 7] = array::from_fn(unlawful_index);
     let mut levels = before;
     let n = places.min(7);
     let got = handed::by_reading(file, &mut levels[..n]);
     t.check(got == expected(e));
     t.check(match e {
-        Ok(()) => first_difference(&levels, &SMALL_LEVELS[..6]).is_none(),
+        Ok(_) => first_difference(&levels, &SMALL_LEVELS[..6]).is_none(),
         Err(_) => levels == before,
     });
 }
@@ -118,12 +117,10 @@ fn with_byte(place: usize, byte: u8) -> [u8; 41] {
     file
 }
 
-// Both readers over the first bytes of such a file.
-fn check_both(t: &mut Checks, size: usize, place: usize, byte: u8, e: Result<(), u16>) {
-    let file = with_byte(place, byte);
-    let n = size.min(41);
-    t.check(handed::by_checking(&file[..n]) == expected(e));
-    check_reading(t, &file[..n], 6, e);
+// Both readers, the one with as many places lent as the small file has indices.
+pub(crate) fn check_both(t: &mut Checks, file: &[u8], e: Result<Settings, u16>) {
+    t.check(handed::by_checking(file) == expected(e));
+    check_reading(t, file, 6, e);
 }
 
 // How many bytes of the small file are read, a place and the byte there, and the refusal: cut in each section, with a byte more; then
@@ -154,28 +151,30 @@ const SMALL: [(usize, usize, u8, u16); 20] = [
 // The file, and with more and fewer places; then what is refused.
 pub(crate) fn small() -> Checks {
     let mut t = Checks::new();
-    check_both(&mut t, 40, 0, 4, Ok(()));
+    check_both(&mut t, &SMALL_FILE[..40], Ok(parts::small(7)));
     check_reading(&mut t, &SMALL_FILE[..40], 7, Err(6));
     check_reading(&mut t, &SMALL_FILE[..40], 5, Err(6));
     for (size, place, byte, refusal) in SMALL {
-        check_both(&mut t, size, place, byte, Err(refusal));
+        let file = with_byte(place, byte);
+        check_both(&mut t, &file[..size.min(41)], Err(refusal));
     }
     t
 }
 
-// Reads the file of three levels back: the fillers in the level buffer, C, R, N and k, the bins, and the readings.
+// Reads the file of three levels back: the fillers in the level buffer, the settings and the readings.
 fn check_three_read(t: &mut Checks, file: &[u8], written: &[i16; 66]) {
     let mut levels: [i16; 66] = array::from_fn(unlawful_index);
     let got = handed::by_reading(file, &mut levels);
-    let e = handed::expected(Ok(()), TALL, [code(1, 0x40D0_0000), code(2, 17)]);
+    let e = handed::expected(Ok(TALL), [code(1, 0x40D0_0000), code(2, 17)]);
     t.check(got == e);
     t.check(levels == *written);
     t.check(handed::by_checking(file) == e);
 }
 
-// The start of the file: the shape, the bins of level 2, 1 and 0, 6.5 percent and a fault code of 17, and the count of level 2.
+// The start of the file: the shape, with black and white, the bins of level 2, 1 and 0, 6.5 percent and a fault code of 17, and the count of
+// level 2.
 const THREE_START: &[u8] =
-    b"\x04\x00\x05\x00\x09\x00\x02\x00\x03\x00\x03\x00\x02\x00\x04\x00\x07\x00\x02\x00\x01\x00\x00\xD0\x40\x02\x11\x00\x00\x00\x06\x00";
+    b"\x06\x00\x05\x00\x09\x00\x02\x00\x03\x00\x10\x00\xEB\x00\x03\x00\x02\x00\x04\x00\x07\x00\x02\x00\x01\x00\x00\xD0\x40\x02\x11\x00\x00\x00\x06\x00";
 
 // Whether a section starts with a level's count and its indices.
 fn has_level(section: &[u8], levels: &[i16]) -> bool {
@@ -185,36 +184,29 @@ fn has_level(section: &[u8], levels: &[i16]) -> bool {
 }
 
 // What the writer leaves, and what the readers make of it.
-fn check_three(t: &mut Checks, file: &[u8; 170], levels: &[i16; 66]) {
+fn check_three(t: &mut Checks, file: &[u8; 174], levels: &[i16; 66]) {
     t.check(first_difference(file, THREE_START).is_none());
-    t.check(has_level(&file[30..], &levels[..6]));
-    t.check(has_level(&file[44..], &levels[6..21]));
-    t.check(has_level(&file[76..], &levels[21..]));
-    t.check(first_changed(file, 168, byte_filler).is_none());
-    check_three_read(t, &file[..168], levels);
+    t.check(has_level(&file[34..], &levels[..6]));
+    t.check(has_level(&file[48..], &levels[6..21]));
+    t.check(has_level(&file[80..], &levels[21..]));
+    t.check(first_changed(file, 172, byte_filler).is_none());
+    check_three_read(t, &file[..172], levels);
 }
 
-// Writes the file of 5 columns and 9 rows, N = 2, k = 3, bins 7, 4 and 2.
+// Writes the file of 5 columns and 9 rows, N = 2, k = 3, black 16 and white 235, bins 7, 4 and 2.
 pub(crate) fn three() -> Checks {
     let mut t = Checks::new();
     let levels: [i16; 66] = array::from_fn(lawful_index);
-    let mut file: [u8; 170] = array::from_fn(byte_filler);
+    let mut file: [u8; 174] = array::from_fn(byte_filler);
     let mut size = usize::from(BEFORE);
     let answer = lepsarvu::lepsarvu_write_file(
-        5,
-        9,
-        2,
-        3,
-        &[7, 4, 2, 0, 0, 0, 0],
-        1,
-        0x40D0_0000,
-        2,
-        17,
+        &[5, 9, 2, 3, 16, 235, 7, 4, 2, 0, 0, 0, 0],
+        &[1, 0x40D0_0000, 2, 17],
         &levels,
         &mut file,
         &mut size,
     );
-    t.check(answer == 0 && size == 168);
+    t.check(answer == 0 && size == 172);
     check_three(&mut t, &file, &levels);
     t
 }

@@ -3,21 +3,25 @@ use pyramid::Settings;
 use test_support::comparing::first_difference;
 use test_support::fillers::{byte_filler, first_changed};
 
-// 5 columns, 9 rows, N = 2, k = 3: levels of 45, 15 and 6 nodes.
+// 5 columns, 9 rows, N = 2, k = 3, black 16 and white 235: levels of 45, 15 and 6 nodes.
 pub(crate) const TALL: Settings = Settings {
     columns: 5,
     rows: 9,
     depth: 2,
     kernel: 3,
+    black: 16,
+    white: 235,
     bins: [7, 4, 2, 0, 0, 0, 0],
 };
 
-// 129 columns, 65 rows, N = 6, k = 4: levels of 8,385, 2,145, 561, 153, 45, 15 and 6 nodes.
+// 129 columns, 65 rows, N = 6, k = 4, every grey: levels of 8,385, 2,145, 561, 153, 45, 15 and 6 nodes.
 pub(crate) const WIDE: Settings = Settings {
     columns: 129,
     rows: 65,
     depth: 6,
     kernel: 4,
+    black: 0,
+    white: 255,
     bins: [31, 16, 9, 23, 7, 3, 11],
 };
 
@@ -53,9 +57,13 @@ pub(crate) fn holds(buffer: &[u8], bytes: &[u8]) -> bool {
     first_difference(buffer, bytes).is_none() && first_changed(buffer, n, byte_filler).is_none()
 }
 
+pub(crate) fn with_black_white(s: Settings, black: u16, white: u16) -> Settings {
+    Settings { black, white, ..s }
+}
+
 // Lawful settings with one fault each, and its refusal: a side of 130, a depth of 7, columns or rows that 2 to the depth does not divide
-// less 1, a kernel, and the bin of level 0.
-pub(crate) fn faulty(s: Settings) -> [(Settings, u16); 6] {
+// less 1, a kernel, black at white, black above white, a white of 256, and the bin of level 0.
+pub(crate) fn faulty(s: Settings) -> [(Settings, u16); 9] {
     let mut bins = s.bins;
     bins[0] = 0;
     [
@@ -64,6 +72,17 @@ pub(crate) fn faulty(s: Settings) -> [(Settings, u16); 6] {
         (Settings { columns: 8, ..s }, 14),
         (Settings { rows: 8, ..s }, 15),
         (Settings { kernel: 7, ..s }, 2),
+        (with_black_white(s, 200, 200), 19),
+        (with_black_white(s, 235, 234), 19),
+        (with_black_white(s, 16, 256), 19),
         (Settings { bins, ..s }, 3),
     ]
+}
+
+// The same with black at white besides: of their refusals 3 alone comes after 19.
+pub(crate) fn twice_faulty(s: Settings) -> [(Settings, u16); 9] {
+    faulty(s).map(|(f, refusal)| {
+        let first = if refusal == 3 { 19 } else { refusal };
+        (with_black_white(f, 200, 200), first)
+    })
 }

@@ -1,4 +1,4 @@
-// The limits of indices and readings, in the writer and in both readers: a file of 3 by 2, N = 0, k = 5 with one index that is not 0.
+// The limits of indices and readings, in the writer and in both readers: a file of 3 by 2, N = 0, k = 5, every grey, with one index that is not 0.
 // Kept: refusals are numbers, for the reason at `expected` in `lent`.
 use crate::handed::Handed;
 use crate::parts::{Readings, code};
@@ -25,7 +25,7 @@ fn file_of(bin: u16, r: Readings, put: Put) -> [u8; 40] {
     let mut file = BLANK_FILE;
     file[12..14].copy_from_slice(&bin.to_le_bytes());
     for (at, code) in [16, 21].into_iter().zip(r) {
-        file[at] = code.kind;
+        file[at] = code.kind.to_le_bytes()[0];
         file[at + 1..at + 5].copy_from_slice(&code.number.to_le_bytes());
     }
     let at = 28 + 2 * put.place.min(5);
@@ -60,7 +60,8 @@ fn check(t: &mut Checks, bin: u16, r: Readings, put: Put, e: Result<(), u16>) {
         levels: &levels,
     };
     t.check(writing::gives(contents, 40, e.map(|()| file.as_slice())));
-    check_read(t, &file, handed::expected(e, s, r), e.map(|()| levels));
+    let handed = handed::expected(e.map(|()| s), r);
+    check_read(t, &file, handed, e.map(|()| levels));
 }
 
 // A bin, a place, the index there and its word, and what is expected: accepted are index times bin of exactly 4,096 and -4,096, refused those
@@ -92,8 +93,8 @@ pub(crate) fn indices() -> Checks {
 }
 
 // A kind, a number and what is expected: not fitted with 0 and other numbers; 0 and 100 percent, the smallest, those next above
-// 100 and below 0, an infinity, a NaN; fault codes of 1 to 255; other kinds.
-const READINGS: [(u8, u32, Result<(), u16>); 19] = [
+// 100 and below 0, an infinity, a NaN; fault codes of 1 to 255; other kinds of one byte.
+const READINGS: [(u32, u32, Result<(), u16>); 19] = [
     (0, 0, Ok(())),
     (0, 1, Err(4)),
     (0, 0x8000_0000, Err(4)),

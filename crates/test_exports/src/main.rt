@@ -1,4 +1,4 @@
-// Calls every exported function with numbers that all differ, and compares each number that is handed out with document 01.
+// Calls every exported function with numbers that all differ, and compares each number that is handed out with documents 01 and 02.
 #![tactic(auto)]
 
 mod files;

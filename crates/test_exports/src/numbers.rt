@@ -1,6 +1,9 @@
-// The calls that hand out numbers of a size or of settings. What they hand out is worked out by hand from document 01.
+// The calls that hand out numbers of a size or of settings. What they hand out is worked out by hand from documents 01 and 02.
 // Kept: refusals are numbers, for the reason at `expected` in `lent`.
-use crate::lent::{BEFORE, BOUNDS_BEFORE, TALL, WIDE, answered, expected, faulty};
+use crate::lent::{
+    BEFORE, BOUNDS_BEFORE, TALL, WIDE, answered, expected, faulty, twice_faulty, with_black_white,
+};
+use crate::parts::settings_array;
 use lepsarvu::closed;
 use pyramid::Settings;
 use test_support::reporting::Checks;
@@ -28,44 +31,57 @@ pub(crate) fn depths() -> Checks {
 }
 
 // The number that the call leaves, or the refusal.
-// Kept: this, `check_size` and the two of bounds are one call each, to which each hands the same settings one by one, as C does; what they share
+// Kept: this, `check_size` and the two of bounds are one call each, to which each hands the same settings; what they share
 // is `answered` and `expected`, and what is expected has a type of its own in each.
 fn check_nodes(t: &mut Checks, s: Settings, e: Result<u16, u16>) {
+    let settings = settings_array(s);
     let got = answered(BEFORE, |nodes| {
-        lepsarvu::lepsarvu_total_nodes(s.columns, s.rows, s.depth, s.kernel, &s.bins, nodes)
+        lepsarvu::lepsarvu_total_nodes(&settings, nodes)
     });
     t.check(got == expected(BEFORE, e));
 }
 
 fn check_size(t: &mut Checks, s: Settings, e: Result<usize, u16>) {
+    let settings = settings_array(s);
     let before = usize::from(BEFORE);
     let got = answered(before, |size| {
-        lepsarvu::lepsarvu_file_size(s.columns, s.rows, s.depth, s.kernel, &s.bins, size)
+        lepsarvu::lepsarvu_file_size(&settings, size)
     });
     t.check(got == expected(before, e));
 }
 
 fn check_bounds(t: &mut Checks, s: Settings, e: Result<[u16; 7], u16>) {
+    let settings = settings_array(s);
     let got = answered(BOUNDS_BEFORE, |bounds| {
-        lepsarvu::lepsarvu_level_bounds(s.columns, s.rows, s.depth, s.kernel, &s.bins, bounds)
+        lepsarvu::lepsarvu_level_bounds(&settings, bounds)
     });
     t.check(got == expected(BOUNDS_BEFORE, e));
 }
 
 fn check_closed_bounds(t: &mut Checks, s: Settings, e: Result<[u16; 7], u16>) {
+    let settings = settings_array(s);
     let got = answered(BOUNDS_BEFORE, |bounds| {
-        closed::lepsarvu_closed_loop_bounds(s.columns, s.rows, s.depth, s.kernel, &s.bins, bounds)
+        closed::lepsarvu_closed_loop_bounds(&settings, bounds)
     });
     t.check(got == expected(BOUNDS_BEFORE, e));
 }
 
-// T and the bytes of a file: 24 + 4 times 3 + 2 times 66, and 24 + 4 times 7 + 2 times 11,310.
+// 129 columns, 129 rows, N = 6, k = 4: 22,359 nodes.
+const LARGEST: Settings = Settings { rows: 129, ..WIDE };
+
+// T and the bytes of a file: 24 + 4(N + 1) + 2T, and 4 more for a black and a white that are not 0 and 255.
 pub(crate) fn sizes() -> Checks {
     let mut t = Checks::new();
     check_nodes(&mut t, TALL, Ok(66));
     check_nodes(&mut t, WIDE, Ok(11310));
-    check_size(&mut t, TALL, Ok(168));
+    check_nodes(&mut t, LARGEST, Ok(22359));
+    check_size(&mut t, TALL, Ok(172));
+    check_size(&mut t, with_black_white(TALL, 0, 235), Ok(172));
+    check_size(&mut t, with_black_white(TALL, 16, 255), Ok(172));
+    check_size(&mut t, with_black_white(TALL, 0, 255), Ok(168));
     check_size(&mut t, WIDE, Ok(22672));
+    check_size(&mut t, LARGEST, Ok(44770));
+    check_size(&mut t, with_black_white(LARGEST, 254, 255), Ok(44774));
     t
 }
 
@@ -99,16 +115,22 @@ pub(crate) fn closed_loop_bounds() -> Checks {
     t
 }
 
-// Settings with each fault in turn. They leave the lent numbers as they were.
+// All four leave the lent numbers as they were.
+fn check_refused(t: &mut Checks, faults: &[(Settings, u16)]) {
+    for &(s, refusal) in faults {
+        check_nodes(t, s, Err(refusal));
+        check_size(t, s, Err(refusal));
+        check_bounds(t, s, Err(refusal));
+        check_closed_bounds(t, s, Err(refusal));
+    }
+}
+
+// Settings with each fault in turn, and with 19 and each other.
 pub(crate) fn refusals() -> Checks {
     let mut t = Checks::new();
     for lawful in [TALL, WIDE] {
-        for (s, refusal) in faulty(lawful) {
-            check_nodes(&mut t, s, Err(refusal));
-            check_size(&mut t, s, Err(refusal));
-            check_bounds(&mut t, s, Err(refusal));
-            check_closed_bounds(&mut t, s, Err(refusal));
-        }
+        check_refused(&mut t, &faulty(lawful));
+        check_refused(&mut t, &twice_faulty(lawful));
     }
     t
 }

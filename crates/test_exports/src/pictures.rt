@@ -1,22 +1,12 @@
-// Coding and rebuilding of 3 columns and 5 rows, N = 1, k = 6, bins 7 and 2. What is expected comes from tests/reference.
+// Coding and rebuilding of 3 columns and 5 rows, N = 1, k = 6, every grey, bins 7 and 2. What is expected comes from tests/reference.
 use lepsarvu::closed;
-use pyramid::Settings;
 use std::array;
 use test_support::comparing::first_difference;
 use test_support::fillers::{byte_filler, first_changed, unlawful_index, work_filler};
 use test_support::reporting::Checks;
 
-pub(crate) const SETTINGS: Settings = Settings {
-    columns: 3,
-    rows: 5,
-    depth: 1,
-    kernel: 6,
-    bins: [7, 2, 0, 0, 0, 0, 0],
-};
-
-pub(crate) const PIXELS: usize = 15;
-
-pub(crate) const NODES: usize = 21;
+// The settings, as the exported functions take them.
+const NUMBERS: [u16; 13] = [3, 5, 1, 6, 0, 255, 7, 2, 0, 0, 0, 0, 0];
 
 const PICTURE: [u8; 15] = [
     0, 255, 17, 90, 3, 140, 61, 200, 38, 250, 12, 77, 129, 5, 231,
@@ -27,87 +17,108 @@ const INDICES: [i16; 21] = [
     41, 54, 59, 41, 47, 39, -10, 23, -15, -2, -14, 6, -10, 14, -5, 20, -12, 0, 5, -11, 22,
 ];
 
-// A coding of the picture leaves indices, and values in the work buffer.
-fn check_left<F: FnOnce(&mut [i16], &mut [i32]) -> u16>(
-    t: &mut Checks,
-    indices: [i16; 21],
-    values: [i32; 21],
-    call: F,
-)
+// A picture and the indices of its levels, of which one is handed in and the other left, and the values that are left in the work buffer.
+// Kept: settings are the numbers that the exported functions take.
+#[derive(Clone, Copy)]
+pub(crate) struct Piece<'a> {
+    pub settings: &'a [u16; 13],
+    pub pixels: &'a [u8],
+    pub indices: &'a [i16],
+    pub values: &'a [i32],
+}
+
+// A coding leaves the indices and the values, and other places as they were.
+fn check_left<F: FnOnce(&mut [i16], &mut [i32]) -> u16>(t: &mut Checks, p: Piece, call: F)
     requires { F.IsAlwaysCallable call }
 {
-    let mut levels: [i16; 21] = array::from_fn(unlawful_index);
+    let n = p.indices.len();
+    let mut levels: [i16; 24] = array::from_fn(unlawful_index);
     let mut work: [i32; 24] = array::from_fn(work_filler);
-    let answer = call(&mut levels, &mut work);
+    let answer = call(&mut levels[..n.min(24)], &mut work);
     t.check(answer == 0);
-    t.check(levels == indices);
-    t.check(first_difference(&work, &values).is_none());
-    t.check(first_changed(&work, 21, work_filler).is_none());
+    t.check(first_difference(&levels, p.indices).is_none());
+    t.check(first_difference(&work, p.values).is_none());
+    t.check(first_changed(&work, n, work_filler).is_none());
 }
 
-// Open-loop the averages.
-fn check_coded(t: &mut Checks) {
-    let averages: [i32; 21] = [
-        83, 109, 118, 83, 95, 79, 0, 255, 17, 90, 3, 140, 61, 200, 38, 250, 12, 77, 129, 5, 231,
-    ];
-    check_left(t, INDICES, averages, |levels, work| {
-        lepsarvu::lepsarvu_coding(3, 5, 1, 6, &SETTINGS.bins, &PICTURE, levels, work)
+pub(crate) fn check_coded(t: &mut Checks, p: Piece) {
+    check_left(t, p, |levels, work| {
+        lepsarvu::lepsarvu_coding(p.settings, p.pixels, levels, work)
     });
 }
 
-// Closed-loop the rebuilt values: one index is another.
-fn check_closed(t: &mut Checks) {
+pub(crate) fn check_closed(t: &mut Checks, p: Piece) {
+    check_left(t, p, |levels, work| {
+        closed::lepsarvu_closed_loop_coding(p.settings, p.pixels, levels, work)
+    });
+}
+
+// Rebuilding from the indices leaves the picture and the unclamped values.
+pub(crate) fn check_rebuilt(t: &mut Checks, p: Piece) {
+    let mut picture: [u8; 16] = array::from_fn(byte_filler);
+    let mut work: [i32; 24] = array::from_fn(work_filler);
+    let lent = &mut picture[..p.pixels.len().min(16)];
+    let answer = lepsarvu::lepsarvu_rebuilding(p.settings, p.indices, lent, &mut work);
+    t.check(answer == 0);
+    t.check(first_difference(&picture, p.pixels).is_none());
+    t.check(first_difference(&work, p.values).is_none());
+    t.check(first_changed(&work, p.indices.len(), work_filler).is_none());
+}
+
+// Open-loop the work buffer has the averages.
+fn check_open_piece(t: &mut Checks) {
+    let coded = Piece {
+        settings: &NUMBERS,
+        pixels: &PICTURE,
+        indices: &INDICES,
+        values: &[
+            83, 109, 118, 83, 95, 79, 0, 255, 17, 90, 3, 140, 61, 200, 38, 250, 12, 77, 129, 5, 231,
+        ],
+    };
+    check_coded(t, coded);
+}
+
+// Closed-loop it has the rebuilt values: one index is another.
+fn check_closed_piece(t: &mut Checks) {
     let mut indices = INDICES;
     indices[11] = 7;
-    let values: [i32; 21] = [
-        82, 108, 118, 82, 94, 78, -3, 255, 16, 87, 0, 143, 63, 200, 36, 251, 9, 75, 127, 6, 229,
-    ];
-    check_left(t, indices, values, |levels, work| {
-        closed::lepsarvu_closed_loop_coding(3, 5, 1, 6, &SETTINGS.bins, &PICTURE, levels, work)
-    });
+    let coded = Piece {
+        settings: &NUMBERS,
+        pixels: &PICTURE,
+        indices: &indices,
+        values: &[
+            82, 108, 118, 82, 94, 78, -3, 255, 16, 87, 0, 143, 63, 200, 36, 251, 9, 75, 127, 6, 229,
+        ],
+    };
+    check_closed(t, coded);
 }
 
-// Rebuilding from the indices leaves the picture, whose first pixel is clamped, and the unclamped values.
-fn check_rebuilt(t: &mut Checks) {
-    let values: [i32; 21] = [
-        82, 108, 118, 82, 94, 78, -3, 255, 16, 87, 0, 136, 63, 200, 36, 251, 9, 75, 127, 6, 229,
-    ];
-    let pixels: [u8; 15] = [0, 255, 16, 87, 0, 136, 63, 200, 36, 251, 9, 75, 127, 6, 229];
-    let mut picture: [u8; 15] = [99; 15];
-    let mut work: [i32; 24] = array::from_fn(work_filler);
-    let answer = lepsarvu::lepsarvu_rebuilding(
-        3,
-        5,
-        1,
-        6,
-        &SETTINGS.bins,
-        &INDICES,
-        &mut picture,
-        &mut work,
-    );
-    t.check(answer == 0);
-    t.check(picture == pixels);
-    t.check(first_difference(&work, &values).is_none());
-    t.check(first_changed(&work, 21, work_filler).is_none());
+// The first pixel is clamped.
+fn check_shown_piece(t: &mut Checks) {
+    let shown = Piece {
+        settings: &NUMBERS,
+        pixels: &[0, 255, 16, 87, 0, 136, 63, 200, 36, 251, 9, 75, 127, 6, 229],
+        indices: &INDICES,
+        values: &[
+            82, 108, 118, 82, 94, 78, -3, 255, 16, 87, 0, 136, 63, 200, 36, 251, 9, 75, 127, 6, 229,
+        ],
+    };
+    check_rebuilt(t, shown);
 }
 
 pub(crate) fn accepted() -> Checks {
     let mut t = Checks::new();
-    check_coded(&mut t);
-    check_closed(&mut t);
-    check_rebuilt(&mut t);
+    check_open_piece(&mut t);
+    check_closed_piece(&mut t);
+    check_shown_piece(&mut t);
     t
 }
 
-// Rebuilding of 3 columns and 2 rows, N = 0, k = 5, from one index that is not 0.
+// Rebuilding of 3 columns and 2 rows, N = 0, k = 5, every grey, from one index that is not 0.
 // Kept: the exported function answers a number.
 fn rebuilding(bin: u16, index: i16, picture: &mut [u8; 6], work: &mut [i32; 7]) -> u16 {
     lepsarvu::lepsarvu_rebuilding(
-        3,
-        2,
-        0,
-        5,
-        &[bin, 0, 0, 0, 0, 0, 0],
+        &[3, 2, 0, 5, 0, 255, bin, 0, 0, 0, 0, 0, 0],
         &[0, 0, 0, index, 0, 0],
         picture,
         work,

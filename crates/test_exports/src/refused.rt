@@ -1,13 +1,35 @@
 // Both codings and rebuilding that are refused, with what they leave: all as it was.
 // Kept: refusals are numbers, for the reason at `expected` in `lent`.
-use crate::lent::faulty;
-use crate::pictures::{NODES, PIXELS, SETTINGS};
+use crate::lent::{faulty, twice_faulty};
+use crate::parts::settings_array;
 use lepsarvu::closed;
 use pyramid::Settings;
 use std::array;
 use test_support::fillers::{byte_filler, lawful_index, unlawful_index, work_filler};
 use test_support::reporting::Checks;
 use test_support::rooms::Lengths;
+
+// 3 columns and 5 rows, N = 1, k = 6, black 16, white 235, bins 7 and 2.
+const SETTINGS: Settings = Settings {
+    columns: 3,
+    rows: 5,
+    depth: 1,
+    kernel: 6,
+    black: 16,
+    white: 235,
+    bins: [7, 2, 0, 0, 0, 0, 0],
+};
+
+const PIXELS: usize = 15;
+
+const NODES: usize = 21;
+
+// Lengths of buffers that no call refuses.
+const ENOUGH: Lengths = Lengths {
+    picture: PIXELS,
+    levels: NODES,
+    work: NODES + 1,
+};
 
 // What is refused: settings, how many places of each buffer are lent, and the refusal.
 #[derive(Clone, Copy)]
@@ -46,53 +68,51 @@ fn check<F: FnOnce(&mut [u8], &mut [i16], &mut [i32]) -> u16>(
     t.check(work == before.work);
 }
 
-// What a coding is lent.
-fn before_coding() -> Buffers {
-    Buffers {
-        picture: [200; 16],
+// Both codings of a picture.
+fn check_codings(t: &mut Checks, r: Refused, picture: [u8; 16]) {
+    let settings = settings_array(r.settings);
+    let before = Buffers {
+        picture,
         levels: array::from_fn(lawful_index),
         work: array::from_fn(work_filler),
-    }
-}
-
-fn check_coding(t: &mut Checks, r: Refused) {
-    let s = r.settings;
-    check(t, r, before_coding(), |picture, levels, work| {
-        lepsarvu::lepsarvu_coding(
-            s.columns, s.rows, s.depth, s.kernel, &s.bins, picture, levels, work,
-        )
+    };
+    check(t, r, before, |picture, levels, work| {
+        lepsarvu::lepsarvu_coding(&settings, picture, levels, work)
+    });
+    check(t, r, before, |picture, levels, work| {
+        closed::lepsarvu_closed_loop_coding(&settings, picture, levels, work)
     });
 }
 
-fn check_closed_loop_coding(t: &mut Checks, r: Refused) {
-    let s = r.settings;
-    check(t, r, before_coding(), |picture, levels, work| {
-        closed::lepsarvu_closed_loop_coding(
-            s.columns, s.rows, s.depth, s.kernel, &s.bins, picture, levels, work,
-        )
-    });
-}
-
-// With indices that are lawful, or with none that is: their refusal, 11, comes last.
 fn check_rebuilding(t: &mut Checks, r: Refused, levels: [i16; 24]) {
-    let s = r.settings;
+    let settings = settings_array(r.settings);
     let before = Buffers {
         picture: array::from_fn(byte_filler),
         levels,
         work: array::from_fn(work_filler),
     };
     check(t, r, before, |picture, levels, work| {
-        lepsarvu::lepsarvu_rebuilding(
-            s.columns, s.rows, s.depth, s.kernel, &s.bins, levels, picture, work,
-        )
+        lepsarvu::lepsarvu_rebuilding(&settings, levels, picture, work)
     });
 }
 
+// With pixels that are lawful, or with none that is, and with indices: their refusals, 20 and 11, come last.
 fn check_all(t: &mut Checks, r: Refused) {
-    check_coding(t, r);
-    check_closed_loop_coding(t, r);
+    check_codings(t, r, [200; 16]);
+    check_codings(t, r, [3; 16]);
     check_rebuilding(t, r, array::from_fn(lawful_index));
     check_rebuilding(t, r, array::from_fn(unlawful_index));
+}
+
+fn check_faults(t: &mut Checks, faults: &[(Settings, u16)]) {
+    for &(settings, refusal) in faults {
+        let r = Refused {
+            settings,
+            lengths: ENOUGH,
+            refusal,
+        };
+        check_all(t, r);
+    }
 }
 
 // Other lengths of the picture, the levels and the work buffer, and the refusal of them.
@@ -104,21 +124,7 @@ const LENGTHS: [(usize, usize, usize, u16); 5] = [
     (PIXELS, NODES, NODES - 1, 7),
 ];
 
-pub(crate) fn all() -> Checks {
-    let mut t = Checks::new();
-    let lawful = Lengths {
-        picture: PIXELS,
-        levels: NODES,
-        work: NODES + 1,
-    };
-    for (settings, refusal) in faulty(SETTINGS) {
-        let r = Refused {
-            settings,
-            lengths: lawful,
-            refusal,
-        };
-        check_all(&mut t, r);
-    }
+fn check_lengths(t: &mut Checks) {
     for (picture, levels, work, refusal) in LENGTHS {
         let r = Refused {
             settings: SETTINGS,
@@ -129,11 +135,29 @@ pub(crate) fn all() -> Checks {
             },
             refusal,
         };
-        check_all(&mut t, r);
+        check_all(t, r);
     }
+}
+
+// Both codings of a picture that has a pixel below black or above white.
+pub(crate) fn check_pixels(t: &mut Checks, picture: [u8; 16]) {
+    let r = Refused {
+        settings: SETTINGS,
+        lengths: ENOUGH,
+        refusal: 20,
+    };
+    check_codings(t, r, picture);
+}
+
+pub(crate) fn all() -> Checks {
+    let mut t = Checks::new();
+    check_faults(&mut t, &faulty(SETTINGS));
+    check_faults(&mut t, &twice_faulty(SETTINGS));
+    check_lengths(&mut t);
+    check_pixels(&mut t, [3; 16]);
     let indices = Refused {
         settings: SETTINGS,
-        lengths: lawful,
+        lengths: ENOUGH,
         refusal: 11,
     };
     check_rebuilding(&mut t, indices, array::from_fn(unlawful_index));

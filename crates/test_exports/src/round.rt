@@ -1,30 +1,19 @@
-// From a PGM file through a bale file to a PGM file: 3 columns and 2 rows, N = 0, k = 5, bin 1, at which every pixel is shown as it was.
+// From a PGM file through a bale file to a PGM file: 3 columns and 2 rows, N = 0, k = 5, every grey, bin 1, at which every pixel is shown as it
+// was.
 use crate::lent::BEFORE;
 use crate::pgm_writing::Picture;
 use crate::{handed, pgm_writing};
 use lepsarvu::pictures;
 use test_support::reporting::Checks;
 
-const BINS: [u16; 7] = [1, 0, 0, 0, 0, 0, 0];
-
 // Codes a picture and writes its bale file.
 fn check_filed(t: &mut Checks, p: Picture, file: &mut [u8; 40]) {
     let mut levels: [i16; 6] = [0; 6];
     let mut work: [i32; 6] = [0; 6];
     let mut size = usize::from(BEFORE);
-    let coded = lepsarvu::lepsarvu_coding(
-        p.columns,
-        p.rows,
-        0,
-        5,
-        &BINS,
-        p.pixels,
-        &mut levels,
-        &mut work,
-    );
-    let answer = lepsarvu::lepsarvu_write_file(
-        p.columns, p.rows, 0, 5, &BINS, 0, 0, 2, 9, &levels, file, &mut size,
-    );
+    let settings = [p.columns, p.rows, 0, 5, 0, 255, 1, 0, 0, 0, 0, 0, 0];
+    let coded = lepsarvu::lepsarvu_coding(&settings, p.pixels, &mut levels, &mut work);
+    let answer = lepsarvu::lepsarvu_write_file(&settings, &[0, 0, 2, 9], &levels, file, &mut size);
     t.check(coded == 0);
     t.check(answer == 0 && size == 40);
 }
@@ -35,22 +24,12 @@ fn check_shown(t: &mut Checks, file: &[u8; 40]) {
     let mut pixels: [u8; 6] = [0; 6];
     let mut work: [i32; 6] = [0; 6];
     let (read, got) = handed::by_reading(file, &mut levels);
-    let [columns, rows, depth, kernel] = got.shape;
-    let rebuilt = lepsarvu::lepsarvu_rebuilding(
-        columns,
-        rows,
-        depth,
-        kernel,
-        &got.bins,
-        &levels,
-        &mut pixels,
-        &mut work,
-    );
+    let rebuilt = lepsarvu::lepsarvu_rebuilding(&got.settings, &levels, &mut pixels, &mut work);
     t.check(read == 0);
     t.check(rebuilt == 0);
     let shown = Picture {
-        columns,
-        rows,
+        columns: got.settings[0],
+        rows: got.settings[1],
         pixels: &pixels,
     };
     pgm_writing::check(t, shown, 40, Ok(b"P5\n3 2\n255\n\xC8\x00\xFF\n#5"));
