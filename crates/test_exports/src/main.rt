@@ -2,7 +2,10 @@
 #![tactic(auto)]
 
 mod files;
+mod grey_files;
+mod greys;
 mod handed;
+mod kinds;
 mod lent;
 mod limits;
 mod numbers;
@@ -34,6 +37,23 @@ fn main(rt: HostRuntime) -> io::Result<()> {
         ("file of three levels", files::three()),
         ("limits of indices", limits::indices()),
         ("limits of readings", limits::readings()),
+        ("kinds of readings", kinds::refused()),
+        ("black and white, pieces", greys::pieces()),
+        ("black and white, rebuilding", greys::shown()),
+        ("black and white, pixels outside", greys::outside()),
+        ("black and white, ends", greys::ends()),
+        ("file with black and white, writing", grey_files::written()),
+        (
+            "file with black and white, refused settings",
+            grey_files::unset(),
+        ),
+        ("file with black and white, shapes", grey_files::shapes()),
+        ("file with black and white, cut", grey_files::cut()),
+        ("file with black and white, faults", grey_files::faults()),
+        (
+            "file with black and white, rebuilding",
+            grey_files::rebuilt(),
+        ),
         ("PGM sizes", pgm_writing::sizes()),
         ("PGM, writing", pgm_writing::accepted()),
         ("PGM, refused writing", pgm_writing::refusals()),
