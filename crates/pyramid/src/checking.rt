@@ -98,10 +98,11 @@ pub fn check_shape(s: Settings) -> Result<(), Refusal>
     if !kernel_ok(s.kernel) {
         return Err(Refusal::Kernel);
     }
-    if !black_white_ok(s.black, s.white) {
-        return Err(Refusal::BlackWhite);
+    if black_white_ok(s.black, s.white) {
+        Ok(())
+    } else {
+        Err(Refusal::BlackWhite)
     }
-    Ok(())
 }
 
 // The first rule that the settings break.

@@ -36,6 +36,8 @@ unfolding coding unless first leaves outcome
 returns-then-not-pixels_ok c =
     rw (pixels_left _ _ _ _ _ c.in_ok-lawful.ensures _ c.if-not-pixels_ok.ensures) (record { value = refl; levels_after = refl; work_after = refl })
 
+-- where none of 5, 6 and 7 was given, the buffers are as long
+-- as the coding asks
 pub code-requires : goal.code-requires
 code-requires c = let e = sym c.in_ok-lawful.ensures in rw (value-is _ _ e) (accepted_lent _ _ _ _ (none _ _ e)).sized
 

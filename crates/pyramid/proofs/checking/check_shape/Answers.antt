@@ -22,15 +22,15 @@ pub returns-then-not-kernel_ok : goal.returns-then-not-kernel_ok
 returns-then-not-kernel_ok c =
     refuses tt Kernel (depth_passes _ (sym c.if-not-size_ok.ensures) (rw c.deepest.ensures at c.if-deepest-s.false) (answers_fails {number = 1} _ (sym c.if-not-kernel_ok.ensures)))
 
-pub returns-then-not-black_white_ok : goal.returns-then-not-black_white_ok
-returns-then-not-black_white_ok c =
+pub returns-else-black_white_ok : goal.returns-else-black_white_ok
+returns-else-black_white_ok c =
     refuses tt BlackWhite
     (depth_passes _ (sym c.if-not-size_ok.ensures) (rw c.deepest.ensures at c.if-deepest-s.false)
-    (answers_fails {number = 18} _ (sym c.if-not-black_white_ok.ensures) ∙ answers_passes 2 _ (sym c.if-not-kernel_ok.ensures)))
+    (answers_fails {number = 18} _ (sym c.if-black_white_ok.ensures) ∙ answers_passes 2 _ (sym c.if-not-kernel_ok.ensures)))
 
-pub returns : goal.returns
-returns c =
+pub returns-then-black_white_ok : goal.returns-then-black_white_ok
+returns-then-black_white_ok c =
     accepts tt
     (sym
     (depth_passes _ (sym c.if-not-size_ok.ensures) (rw c.deepest.ensures at c.if-deepest-s.false)
-    (sym first_nil ∙ answers_passes 19 _ (sym c.if-not-black_white_ok.ensures) ∙ answers_passes 2 _ (sym c.if-not-kernel_ok.ensures))))
+    (sym first_nil ∙ answers_passes 19 _ (sym c.if-black_white_ok.ensures) ∙ answers_passes 2 _ (sym c.if-not-kernel_ok.ensures))))

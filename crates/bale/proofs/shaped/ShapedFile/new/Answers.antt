@@ -26,9 +26,9 @@ both_counts bytes c o e = (λ same. sym c ∙ same ∙ o ∙ ap shape_count e, �
 
 pub returns-then-count-shape_count : goal.returns-then-count-shape_count
 returns-then-count-shape_count c =
-    let section = none _ _ (sym (rw c.count_in-count.ensures at c.in_ok-check_section.ensures)) in
     let counts = both_counts c.args.bytes.now c.count_in-count.ensures c.shape_count.ensures.0 c.settings_in-settings.ensures in
-    refuses _ Count (shape_miscounted _ section (λ same. c.if-count-shape_count.true (counts.1 same)))
+    let whole = none _ _ (sym (rw c.count_in-count.ensures at c.in_ok-check_section.ensures)) in
+    refuses _ Count (shape_miscounted _ whole (λ same. c.if-count-shape_count.true (counts.1 same)))
 
 pub returns-in_err-shape : goal.returns-in_err-shape
 returns-in_err-shape c =
