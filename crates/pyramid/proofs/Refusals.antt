@@ -49,19 +49,6 @@ unfolding first
 first_stop zero later refused = absurd (refused refl)
 first_stop (suc n) later refused = refl
 
--- what is looked for first, and what after it
-pub first_earlier : (xs later : List ℕ) → (first xs ≡ 0 → ⊥) → first (xs ++ later) ≡ first xs
-unfolding first
-first_earlier [] later refused = absurd (refused refl)
-first_earlier (zero ∷ xs) later refused = first_earlier xs later refused
-first_earlier (suc n ∷ xs) later refused = refl
-
-pub first_later : (xs later : List ℕ) → first xs ≡ 0 → first (xs ++ later) ≡ first later
-unfolding first
-first_later [] later e = refl
-first_later (zero ∷ xs) later e = first_later xs later e
-first_later (suc n ∷ xs) later e = absurd (omega arith)
-
 -- a number that no later rule gives
 pub first_here : (x : ℕ) (later : List ℕ) {number : ℕ} → first later ≢ number → first (x ∷ later) ≡ number → x ≡ number
 unfolding first
