@@ -1,10 +1,10 @@
 // What a call is to answer, a value or a refusal, and how its answer differs.
-use crate::forms::Form;
 use crate::parts::{Finding, Part};
 use bale::{Bale, Code, Reading};
 use pyramid::Settings;
 use refusals::Refusal;
 use test_support::comparing::first_difference;
+use test_support::decoding::Form;
 use test_support::reading::rest;
 use test_support::{answers, decoding};
 

@@ -1,5 +1,4 @@
 // The cases of the vectors one after the other.
-use crate::forms::Form;
 use crate::parts::{Finding, Part, cut};
 use crate::readers::Case;
 use crate::{answers, readers, writers};
@@ -7,6 +6,7 @@ use refusals::Refusal;
 use std::io;
 use std::io::Read;
 use test_support::decoding;
+use test_support::decoding::Form;
 use test_support::numbered::answer_of;
 use test_support::reading::{check_cases, read_part};
 use test_support::reporting::Tally;

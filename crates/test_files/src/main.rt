@@ -5,7 +5,6 @@ mod answers;
 mod cases;
 mod codes;
 mod faults;
-mod forms;
 mod greys;
 mod parts;
 mod piece_a;
@@ -13,8 +12,8 @@ mod readers;
 mod singles;
 mod writers;
 
-use forms::Form;
 use std::{fs, io};
+use test_support::decoding::Form;
 use test_support::reporting::print_cases;
 
 // Runs the cases of the vectors and writes their line.

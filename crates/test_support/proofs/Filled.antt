@@ -1,8 +1,8 @@
 -- A loop that has written a table into the whole of a buffer, a list whose elements are a table's, and numbers of such bytes. Assumes nothing.
-use Rattle.std.proofs.Common.{◌≡◌, ℕ, zero, suc, ◌+◌, ◌<◌, ◌≤◌, ◌*◌, List, ◌++◌, length, get_or, drop, sym, ◌∙◌, zero-add, add-zero, arith}
+use Rattle.std.proofs.Common.{◌≡◌, ℕ, zero, suc, ◌+◌, ◌<◌, ◌≤◌, ◌*◌, List, ◌++◌, length, get_or, drop, refl, sym, ◌∙◌, zero-add, add-zero, arith}
 use denote.Param.Members.{Mut}
 use native.Mathlib.Decide.{ℕ_discrete}
-use lib.Seq.{ext_get_or}
+use lib.Seq.{ext_get_or, get_or-drop}
 use Rattle.std.specs.Array.{IsFromFnResult, IsFromFnResultFrom}
 use Rattle.std.specs.Fn.{Called}
 use Rattle.mathematics.specs.Inner.Splices.{splice}
@@ -52,3 +52,9 @@ module _ (bytes : List ℕ) (at : ℕ) where
   number32 e =
       let third : at + 2 + 1 ≡ at + 3 = omega arith in
       rw (e, add-zero, third) (omega arith)
+
+  -- a number in the bytes from there on
+  pub number_after : (i : ℕ) → unsigned16 (drop at bytes) i ≡ unsigned16 bytes (at + i)
+  number_after i =
+      let second : at + (i + 1) ≡ at + i + 1 = omega arith in
+      rw (get_or-drop at bytes i 0, get_or-drop at bytes (i + 1) 0, second) refl

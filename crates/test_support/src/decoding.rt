@@ -2,7 +2,7 @@
 // Kept beside bale's: the tests share no code with the decoding they test.
 ghost use Rattle.std.specs.Prelude.{◌≡◌, ◌+◌, get_or};
 ghost use Rattle.mathematics.specs.Definitions.Tables.{tabulate};
-ghost use Rattle.test_support.specs.Definitions.Numbers.{unsigned16, unsigned32, signed16, signed32, settings, full_settings};
+ghost use Rattle.test_support.specs.Definitions.Numbers.{unsigned16, unsigned32, signed16, signed32, settings_length, settings_with, settings};
 
 use crate::reading::rest;
 use pyramid::Settings;
@@ -50,32 +50,48 @@ pub fn signed32_at(bytes: &[u8], at: usize) -> i32
     unsigned32_at(bytes, at).cast_signed()
 }
 
-// C, R, N, k and the seven bins, slot 0 first: 22 bytes. Black is 0 and white is 255.
-pub fn settings_of(bytes: &[u8]) -> Settings
-    ensures { result ≡ settings bytes.now }
+// Settings whose bins start at a place: 14 bytes, slot 0 first.
+fn settings_with(bytes: &[u8], black: u16, white: u16, at: usize) -> Settings
+    ensures { result ≡ settings_with bytes.now black white at }
 {
+    let bins = rest(bytes, at);
     Settings {
         columns: unsigned16_at(bytes, 0),
         rows: unsigned16_at(bytes, 2),
         depth: unsigned16_at(bytes, 4),
         kernel: unsigned16_at(bytes, 6),
-        black: 0,
-        white: 255,
-        bins: array::from_fn(|slot| unsigned16_at(bytes, 8 + 2 * slot)),
+        black,
+        white,
+        bins: array::from_fn(|slot| unsigned16_at(bins, 2 * slot)),
     }
 }
 
-// C, R, N, k, black, white and the seven bins: 26 bytes.
-pub fn full_settings_of(bytes: &[u8]) -> Settings
-    ensures { result ≡ full_settings bytes.now }
-{
-    Settings {
-        columns: unsigned16_at(bytes, 0),
-        rows: unsigned16_at(bytes, 2),
-        depth: unsigned16_at(bytes, 4),
-        kernel: unsigned16_at(bytes, 6),
-        black: unsigned16_at(bytes, 8),
-        white: unsigned16_at(bytes, 10),
-        bins: array::from_fn(|slot| unsigned16_at(bytes, 12 + 2 * slot)),
+// How settings stand in bytes: C, R, N, k and the seven bins, where black is 0 and white is 255; or with black and white before the bins.
+#[derive(Clone, Copy)]
+pub enum Form {
+    Short,
+    Greys,
+}
+
+impl Form {
+    // How many bytes the settings have.
+    pub fn length(self) -> usize
+        ensures { result ≡ settings_length self }
+    {
+        match self {
+            Form::Short => 22,
+            Form::Greys => 26,
+        }
+    }
+
+    pub fn settings(self, bytes: &[u8]) -> Settings
+        ensures { result ≡ settings bytes.now self }
+    {
+        match self {
+            Form::Short => settings_with(bytes, 0, 255, 8),
+            Form::Greys => {
+                settings_with(bytes, unsigned16_at(bytes, 8), unsigned16_at(bytes, 10), 12)
+            }
+        }
     }
 }

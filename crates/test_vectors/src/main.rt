@@ -9,9 +9,9 @@ mod pyramid_cases;
 mod rebuilding;
 mod shape;
 
-use cases::Form;
 use pyramid::Manner;
 use std::{fs, io};
+use test_support::decoding::Form;
 use test_support::reporting;
 
 // What the cases of a file hold: a coding in a manner and the rebuilding from it, or a rebuilding from levels that no coding made.

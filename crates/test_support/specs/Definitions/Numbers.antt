@@ -4,6 +4,13 @@ use Rattle.std.specs.Int.{w16, w32}
 use Rattle.std.proofs.Common.{to_z}
 use Rattle.mathematics.specs.Definitions.Tables.{tabulate}
 use Rattle.pyramid.specs.declared.Settings.{Settings}
+use Rattle.test_support.specs.declared.decoding.Form.{Form}
+use Rattle.test_support.specs.declared.decoding.Form.TheVariants.{Short, Greys}
+
+-- how many bytes settings have
+abbrev pub settings_length : Form → ℕ
+settings_length Short = 22
+settings_length Greys = 26
 
 module _ (bytes : List ℕ) where
   -- the number of 16 bits, and of 32, at a place
@@ -20,28 +27,20 @@ module _ (bytes : List ℕ) where
   abbrev pub signed32 : ℕ → ℤ
   signed32 at = to_z w32 (unsigned32 at)
 
-  -- C, R, N, k and the seven bins, slot 0 first, each of 16 bits; black is 0 and white is 255
-  abbrev pub settings : Settings
-  settings =
+  -- C, R, N and k, and seven bins from a place on, slot 0 first, each of 16 bits
+  abbrev pub settings_with : (black white at : ℕ) → Settings
+  settings_with black white at =
       record {
         columns = unsigned16 0;
         rows = unsigned16 2;
         depth = unsigned16 4;
         kernel = unsigned16 6;
-        black = 0;
-        white = 255;
-        bins = tabulate 7 (λ slot. unsigned16 (8 + 2 * slot));
+        black = black;
+        white = white;
+        bins = tabulate 7 (λ slot. unsigned16 (at + 2 * slot));
       }
 
-  -- C, R, N, k, black, white and the seven bins
-  abbrev pub full_settings : Settings
-  full_settings =
-      record {
-        columns = unsigned16 0;
-        rows = unsigned16 2;
-        depth = unsigned16 4;
-        kernel = unsigned16 6;
-        black = unsigned16 8;
-        white = unsigned16 10;
-        bins = tabulate 7 (λ slot. unsigned16 (12 + 2 * slot));
-      }
+  -- black is 0 and white is 255, or both stand before the bins
+  abbrev pub settings : Form → Settings
+  settings Short = settings_with 0 255 8
+  settings Greys = settings_with (unsigned16 8) (unsigned16 10) 12
