@@ -1,20 +1,21 @@
 -- The two forms of the shape section, with four numbers and with six: written and read, the numbers are the same; read and written, the bytes
 -- are. Assumes nothing.
-use mathlib.Core.Path.{◌≡◌, refl, sym, ap, ◌∙◌, subst}
+use mathlib.Core.Path.{◌≡◌, refl, sym, ap, ◌∙◌}
 use mathlib.Core.Bool.{Bool, true, false, cond}
 use mathlib.Core.List.{List, [], ◌∷◌}
 use Prim.Native.Nat.{ℕ, zero, suc, ◌+◌, ◌*◌, ◌≤◌, ◌<◌}
 use native.Mathlib.Omega.{arith}
+use borrow.Author.Tests.{eq-eqb}
 use lib.Dec.{T, eqb, eqb→eq}
 use lib.ListN.{length, get_or}
 use Rattle.mathematics.proofs.Tests.{both}
 use Rattle.pyramid.specs.declared.Settings.{Settings}
 use Rattle.pyramid.specs.Definitions.Buffers.{Bytes}
 use Rattle.pyramid.specs.Inner.Lawful.{Shaped}
-use Rattle.bale.specs.Definitions.Words.{le16, u16_at, words_at}
+use Rattle.bale.specs.Definitions.Words.{u16_at, words_at}
 use Rattle.bale.specs.Definitions.Sections.{numbers_section}
 use Rattle.bale.specs.Definitions.Files.{every_grey, shape_section, shape_count}
-use Rattle.bale.specs.Definitions.Reader.{black_in, white_in, depth_in, count_in, settings_in}
+use Rattle.bale.specs.Definitions.Reader.{black_in, white_in, count_in, settings_in}
 use Rattle.bale.proofs.Stands.{Stands}
 use Rattle.bale.proofs.WordLists.{Short, get_or-words_at}
 use Rattle.bale.proofs.Sections.{Section, numbers_read, numbers_stand}
@@ -56,6 +57,13 @@ module _ (s : Settings) where
       by : (every : Bool) → (count_by every ≡ 6 → ⊥) → count_by every ≡ 4
       by true other = refl
       by false other = absurd (other refl)
+
+  pub every_of : s.black ≡ 0 → s.white ≡ 255 → every_grey s ≡ true
+  every_of black white = rw (eq-eqb _ _ black, eq-eqb _ _ white) refl
+
+  pub count_every : s.black ≡ 0 → s.white ≡ 255 → shape_count s ≡ 4
+  unfolding shape_count
+  count_every black white = ap count_by (every_of black white)
 
   pub every_is : T (every_grey s) → (s.black ≡ 0) × (s.white ≡ 255)
   every_is t = let (black, white) = both (eqb s.black 0) (eqb s.white 255) t in (eqb→eq s.black 0 black, eqb→eq s.white 255 white)

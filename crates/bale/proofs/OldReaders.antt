@@ -4,7 +4,7 @@ use mathlib.Core.Bool.{Bool, true, false, cond}
 use mathlib.Core.List.{List, [], ◌∷◌, ◌++◌}
 use Prim.Native.Nat.{ℕ, ◌≤◌}
 use native.Mathlib.Omega.{arith}
-use borrow.Author.Tests.{le-leb, eq-eqb, ne_eqb}
+use borrow.Author.Tests.{le-leb, ne_eqb}
 use lib.Dec.{T}
 use lib.IntN.{ℤ}
 use lib.ListN.{length, take}
@@ -14,8 +14,8 @@ use Rattle.bale.specs.declared.Note.{Note}
 use Rattle.bale.specs.Definitions.Words.{le16, words, u16_at}
 use Rattle.bale.specs.Definitions.Sections.{numbers_section, section_refusal}
 use Rattle.bale.specs.Definitions.Files.{every_grey, shape_section, bins_section, readings_section, level_sections, file_of}
-use Rattle.bale.specs.Theorems.OldReaders.{EveryGrey, file_before, OldReader, OldReaders}
-use Rattle.bale.proofs.Forms.{every_is}
+use Rattle.bale.specs.Theorems.OldReaders.{EveryGrey, OldReader, OldReaders}
+use Rattle.bale.proofs.Forms.{every_of, every_is}
 
 module _ (s : Settings) (note : Note) (levels : List ℤ) where
   abbrev after : List ℕ
@@ -32,9 +32,6 @@ module _ (s : Settings) (note : Note) (levels : List ℤ) where
   every_by : (every : Bool) → (T every → EveryGrey s) → ¬ EveryGrey s → every ≡ false
   every_by true is other = absurd (other (is tt))
   every_by false is other = refl
-
-  every : EveryGrey s → every_grey s ≡ true
-  every (black, white) = rw (eq-eqb _ _ black, eq-eqb _ _ white) refl
 
   begins_by : take 2 (file_by false) ≡ 0x06 ∷ 0x00 ∷ []
   unfolding file_by numbers_section le16 words
@@ -54,7 +51,7 @@ module _ (s : Settings) (note : Note) (levels : List ℤ) where
 
   old_reader : OldReader s note levels
   old_reader = record {
-    same = λ e. rw (file_is, every e) (unfold file_by in refl);
+    same = λ (black, white). rw (file_is, every_of s black white) (unfold file_by in refl);
     begins = λ other. rw (file_is, every_by (every_grey s) (every_is s) other) begins_by;
     refused = λ other. rw (file_is, every_by (every_grey s) (every_is s) other) (sym refused_by);
   }

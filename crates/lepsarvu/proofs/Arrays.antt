@@ -1,7 +1,7 @@
 -- What a reader fills can be handed in again. Assumes nothing.
-use mathlib.Core.Path.{◌≡◌, refl, sym, ap, ◌∙◌}
+use mathlib.Core.Path.{◌≡◌, refl, ◌∙◌}
 use mathlib.Core.List.{List, [], ◌∷◌}
-use Prim.Native.Nat.{ℕ, zero, suc, ◌+◌}
+use Prim.Native.Nat.{ℕ, zero, suc}
 use lib.Dec.{T}
 use lib.IntN.{ℤ}
 use lib.ListN.{length, get_or}
@@ -14,7 +14,7 @@ use Rattle.pyramid.specs.Definitions.Settings.{bin}
 use Rattle.pyramid.specs.Definitions.Refusals.{first, settings_refusal}
 use Rattle.pyramid.proofs.Refusals.{first-last}
 use Rattle.bale.specs.declared.Note.{Note}
-use Rattle.bale.specs.Definitions.Readings.{ReadingAnswer, HeldReading, reading_ok, note_ok, decode}
+use Rattle.bale.specs.Definitions.Readings.{HeldReading, reading_ok, note_ok}
 use Rattle.bale.specs.Definitions.Calls.{write_refusal}
 use Rattle.bale.proofs.Readings.{decode_code}
 use Rattle.lepsarvu.specs.Definitions.Exports.{settings_of, settings_array, note_of, note_array, reading_at, coded_refusal}

@@ -1,6 +1,6 @@
 -- The clamp of the final picture: it stays between black and white, and brings a value nearer to every pixel between these, as all are that an
 -- accepted coding codes. Assumes nothing.
-use mathlib.Core.Path.{◌≡◌, ap}
+use mathlib.Core.Path.{◌≡◌}
 use mathlib.Core.Bool.{◌&&◌}
 use mathlib.Core.List.{List}
 use Prim.Native.Nat.{ℕ, ◌≤◌, ◌<◌}
@@ -13,7 +13,7 @@ use Rattle.mathematics.specs.Definitions.Distances.{distance}
 use Rattle.mathematics.proofs.Distance.{Near, near_pos, near_negative}
 use Rattle.pyramid.specs.declared.Settings.{Settings}
 use Rattle.pyramid.specs.Definitions.Rebuilding.{rebuilt, clamp}
-use Rattle.pyramid.specs.Definitions.Buffers.{Bytes, raster, read_levels}
+use Rattle.pyramid.specs.Definitions.Buffers.{Bytes, read_levels}
 use Rattle.pyramid.specs.Definitions.Refusals.{pixels_ok, coding_refusal}
 use Rattle.pyramid.specs.Definitions.Calls.{rebuilding}
 use Rattle.pyramid.specs.Inner.Lawful.{BlackWhite}

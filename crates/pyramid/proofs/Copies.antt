@@ -15,7 +15,6 @@ use Rattle.mathematics.proofs.Held.{held, held_is, short, short_is}
 use Rattle.mathematics.proofs.IntegerLaws.{fits_by, abs_sum, abs_minus, minus-minus}
 use Rattle.std.specs.Int.{int_min, int_max}
 use Rattle.std.proofs.lemmas.Int as std
-use Rattle.std.proofs.lemmas.Bool.Decides.{nat_tests}
 use Rattle.quantizer.specs.Definitions.Bins.{bin_index}
 use Rattle.std.proofs.lemmas.List.{map-id}
 use Rattle.pyramid.specs.declared.Settings.{Settings}

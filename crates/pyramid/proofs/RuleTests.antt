@@ -9,7 +9,7 @@ use native.Mathlib.Omega.{arith}
 use borrow.Author.Tests.{lt-leb}
 use lib.Dec.{T, leb, ltb, eqb, leb→le, le→leb, ltb→lt, lt→ltb, nleb→lt, eqb→eq, eqb_refl}
 use lib.IntN.{ℤ, nat_abs}
-use lib.ListN.{length, get_or}
+use lib.ListN.{get_or}
 use Rattle.mathematics.specs.Definitions.Tests.{all_below}
 use Rattle.mathematics.proofs.Tests.{both_of, then, cond_elim, below_at, all_inside, inside_all}
 use Rattle.pyramid.specs.declared.Settings.{Settings}

@@ -5,7 +5,6 @@ use Rattle.mathematics.specs.Definitions.Sums.{sum}
 use Rattle.mathematics.specs.Definitions.Tests.{all_below, all}
 use Rattle.mathematics.specs.Definitions.Tables.{tabulate}
 use Rattle.quantizer.specs.Definitions.Rounding.{round_div}
-use Rattle.quantizer.specs.Definitions.Bins.{bin_index}
 use Rattle.quantizer.proofs.Rounding.{round_at}
 use Rattle.quantizer.proofs.Bins.{bin_at}
 use Rattle.pyramid.specs.Definitions.Settings.{side_ok, depth_ok, divides, kernel_ok, black_white_ok, slot_ok, size_ok, bins_ok}

@@ -1,5 +1,5 @@
 -- `bale::putting::put_shape` meets its contract: four numbers, and two more where the count is 6. Assumes nothing.
-use mathlib.Core.Path.{sym, ◌∙◌}
+use mathlib.Core.Path.{◌∙◌}
 use native.Mathlib.Omega.{arith}
 use lib.ListN.{drop_of_length-le}
 use Rattle.bale.proofs.Forms.{count_most, count_four}
