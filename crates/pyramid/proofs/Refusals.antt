@@ -9,7 +9,9 @@ use borrow.Author.Tests.{eq-eqb, le-leb}
 use lib.Dec.{T, leb, eqb, leb→le, eqb→eq}
 use lib.IntN.{ℤ}
 use lib.ListN.{length}
+use Rattle.std.specs.Prelude.{Ok}
 use Rattle.refusals.specs.Definitions.Outcomes.{outcome}
+use Rattle.refusals.proofs.Outcomes.{none, value-is}
 use Rattle.pyramid.specs.declared.Settings.{Settings}
 use Rattle.pyramid.specs.Definitions.Settings.{size_ok, depth_ok, divides, kernel_ok, black_white_ok, bins_ok}
 use Rattle.pyramid.specs.Definitions.Sizes.{total}
@@ -225,6 +227,25 @@ module _ (s : Settings) where
       → rebuilding_refusal s levels picture work ≡ buffers_refusal s (length picture) (length levels) (length work)
   unfolding rebuilding_refusal lent_refusal
   rebuilding_lengths levels picture work e t = rw (first_skip _ _ e, unless_holds (values_ok s levels) 11 t, first-last (buffers_refusal s (length picture) (length levels) (length work))) (first_over _ _ ∙ first-last _)
+
+-- ---- settings that were accepted with these lengths, which is what coding and rebuilding look for first
+
+module _ (s held : Settings) (picture : List ℕ) (levels work : List ℤ) (e : Ok held ≡ outcome (lent_refusal s (length picture) (length levels) (length work)) s) where
+  pub taken : Accepted held picture levels work
+  taken = rw (value-is _ _ (sym e)) (accepted_lent _ _ _ _ (none _ _ (sym e)))
+
+  -- the one rule that is left to look at
+  rule_left : (rule : Settings → Bool) (number : ℕ) {holds : Bool} → holds ≡ rule held
+      → first (lent_refusal s (length picture) (length levels) (length work) ∷ unless (rule s) number ∷ []) ≡ first (unless holds number ∷ [])
+  rule_left rule number f = rw (f, value-is _ _ (sym e)) (first_skip _ _ (none _ _ (sym e)))
+
+  pub pixels_left : {holds : Bool} → holds ≡ pixels_ok held picture → coding_refusal s picture levels work ≡ first (unless holds 20 ∷ [])
+  unfolding coding_refusal
+  pixels_left = rule_left (λ t. pixels_ok t picture) 20
+
+  pub values_left : {holds : Bool} → holds ≡ values_ok held levels → rebuilding_refusal s levels picture work ≡ first (unless holds 11 ∷ [])
+  unfolding rebuilding_refusal
+  values_left = rule_left (λ t. values_ok t levels) 11
 
 -- ---- what is left
 

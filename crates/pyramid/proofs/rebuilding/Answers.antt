@@ -1,19 +1,11 @@
 -- `pyramid::rebuilding` meets its contract: an accepted call is rebuilt, and a refusal leaves both buffers as they were. Assumes nothing.
-use mathlib.Core.Path.{◌≡◌, refl, sym, ◌∙◌, subst}
+use mathlib.Core.Path.{refl, sym, ◌∙◌, subst}
 use Rattle.refusals.specs.Definitions.Outcomes.{outcome}
-use Rattle.refusals.proofs.Outcomes.{none, value-is, passed_on, some}
-use mathlib.Core.Bool.{Bool}
-use mathlib.Core.List.{List, [], ◌∷◌}
-use Prim.Native.Nat.{ℕ}
+use Rattle.refusals.proofs.Outcomes.{value-is, passed_on, some}
 use lib.Dec.{T}
-use lib.IntN.{ℤ}
-use lib.ListN.{length}
-use Rattle.std.specs.Prelude.{Ok}
-use Rattle.pyramid.specs.declared.Settings.{Settings}
-use Rattle.pyramid.specs.Definitions.Refusals.{unless, first, lent_refusal, values_ok, rebuilding_refusal}
+use Rattle.pyramid.specs.Definitions.Refusals.{unless, first, rebuilding_refusal}
 use Rattle.pyramid.specs.Definitions.Calls.{leaves, rebuilding}
-use Rattle.pyramid.specs.Inner.Accepted.{Accepted}
-use Rattle.pyramid.proofs.Refusals.{first_skip, first_stop, accepted_lent, leaves_kept}
+use Rattle.pyramid.proofs.Refusals.{first_stop, taken, values_left, leaves_kept}
 use Rattle.pyramid.proofs.rebuilding.Goals as goal
 
 pub returns-in_err-lawful : goal.returns-in_err-lawful
@@ -27,22 +19,12 @@ returns-in_err-lawful c =
       work_after = sym (leaves_kept _ _ _ (λ e. refused (sym same ∙ e)));
     }
 
--- settings that are accepted with these buffers
-module _ (s held : Settings) (picture : List ℕ) (levels work : List ℤ) (e : Ok held ≡ outcome (lent_refusal s (length picture) (length levels) (length work)) s) where
-  taken : Accepted held picture levels work
-  taken = rw (value-is _ _ (sym e)) (accepted_lent _ _ _ _ (none _ _ (sym e)))
-
-  -- what is left to look at
-  values_left : (holds : Bool) → holds ≡ values_ok held levels → rebuilding_refusal s levels picture work ≡ first (unless holds 11 ∷ [])
-  unfolding rebuilding_refusal
-  values_left holds f = rw (f, value-is _ _ (sym e)) (first_skip _ _ (none _ _ (sym e)))
-
 pub values_ok-requires : goal.values_ok-requires
 values_ok-requires c = (taken _ _ _ _ _ c.in_ok-lawful.ensures).sized.levels_is
 
 pub returns-then-not-values_ok : goal.returns-then-not-values_ok
 unfolding rebuilding unless first leaves outcome
-returns-then-not-values_ok c = rw (values_left _ _ _ _ _ c.in_ok-lawful.ensures _ c.if-not-values_ok.ensures) (record { value = refl; picture_after = refl; work_after = refl })
+returns-then-not-values_ok c = rw (values_left _ _ _ _ _ c.in_ok-lawful.ensures c.if-not-values_ok.ensures) (record { value = refl; picture_after = refl; work_after = refl })
 
 pub rebuild-requires : goal.rebuild-requires
 rebuild-requires c = record { sized = (taken _ _ _ _ _ c.in_ok-lawful.ensures).sized; t = subst T c.if-not-values_ok.ensures tt }
@@ -51,5 +33,5 @@ pub returns : goal.returns
 unfolding rebuilding unless first leaves outcome
 returns c =
     let s = value-is _ _ (sym c.in_ok-lawful.ensures) in
-    rw (values_left _ _ _ _ _ c.in_ok-lawful.ensures _ c.if-not-values_ok.ensures)
+    rw (values_left _ _ _ _ _ c.in_ok-lawful.ensures c.if-not-values_ok.ensures)
     (record { value = refl; picture_after = rw s at c.rebuild.ensures.picture_after; work_after = rw s at c.rebuild.ensures.work_after })
