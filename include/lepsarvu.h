@@ -27,6 +27,7 @@
  *   18  the PGM file has fewer or more pixels than columns times rows
  *   19  black is not below white, or white is above 255
  *   20  a pixel is below black or above white
+ *   21  the pixel that is asked for lies outside the picture
  *
  * Where several apply, the first in the order that is said beside the function is the answer.
  *
@@ -114,6 +115,13 @@ uint16_t lepsarvu_closed_loop_coding(const lepsarvu_settings *settings, const ui
  * Refused: 1, 13, 14, 15, 2, 19, 3, 5, 6, 7, 11. */
 uint16_t lepsarvu_rebuilding(const lepsarvu_settings *settings, const int16_t *levels, size_t levels_length,
                              uint8_t *picture, size_t picture_length, int32_t *work, size_t work_length);
+
+/* Rebuilds one pixel from the indices of all levels: leaves in pixel what lepsarvu_rebuilding leaves at that column and
+ * row, and in read how many indices it read: one at depth 0, else at most 10 + 16 * (depth - 1). Of each level it reads
+ * the indices of a few columns and rows around the pixel, and no others are looked at: they may be unlawful.
+ * Refused: 1, 13, 14, 15, 2, 19, 3, 6, 21, and 11 for an index that is read. */
+uint16_t lepsarvu_rebuild_pixel(const lepsarvu_settings *settings, const int16_t *levels, size_t levels_length,
+                                uint16_t column, uint16_t row, uint8_t *pixel, uint16_t *read);
 
 /* Leaves in bounds, slot l for level l, how far a rebuilt value of a level can lie from its average; 0 in the slots
  * above the depth. Slot 0 is how many grey levels a shown pixel can differ from the picture that was coded. They hold

@@ -6,7 +6,7 @@ use lib.Dec.{T, eqb→eq}
 use Rattle.mathematics.specs.Definitions.Tests.{all_below}
 use Rattle.mathematics.proofs.Tests.{below_at}
 use Rattle.refusals.specs.declared.Refusal.{Refusal}
-use Rattle.refusals.specs.declared.Refusal.TheVariants.{Size, Kernel, Bin, Reading, PictureLength, LevelsLength, WorkLength, FileLength, FileEnds, Count, Index, BytesAfter, Depth, Columns, Rows, Header, Greatest, PixelCount, BlackWhite, Pixel}
+use Rattle.refusals.specs.declared.Refusal.TheVariants.{Size, Kernel, Bin, Reading, PictureLength, LevelsLength, WorkLength, FileLength, FileEnds, Count, Index, BytesAfter, Depth, Columns, Rows, Header, Greatest, PixelCount, BlackWhite, Pixel, Place}
 use Rattle.refusals.specs.Definitions.Numbers.{number}
 use Rattle.refusals.specs.Definitions.Outcomes.{refusals, outcome, answer_number}
 use Rattle.refusals.specs.Checks.Numbers.{greatest, OneNumberEach}
@@ -42,6 +42,7 @@ module _ {A : Type 0} (value : A) where
   refused_by PixelCount = refl
   refused_by BlackWhite = refl
   refused_by Pixel = refl
+  refused_by Place = refl
 
   -- an error with the number of the first broken rule
   pub refuses : {n : ℕ} (r : Refusal) → number r ≡ n → Err r ≡ outcome n value
@@ -85,7 +86,7 @@ passed_on value other n returned e is said same =
 -- ---- numbers and refusals stand for each other
 
 abbrev at-place : ℕ → Bool
-at-place n = eqb (number (get_or refusals n Pixel)) (suc n)
+at-place n = eqb (number (get_or refusals n Place)) (suc n)
 
 all-in-order : T (all_below greatest at-place)
 unfolding all_below
@@ -133,3 +134,4 @@ one_number_each = record {
     range PixelCount = (omega arith, omega arith)
     range BlackWhite = (omega arith, omega arith)
     range Pixel = (omega arith, omega arith)
+    range Place = (omega arith, omega arith)

@@ -28,6 +28,7 @@ pub enum Refusal {
     PixelCount = 18,
     BlackWhite = 19,
     Pixel = 20,
+    Place = 21,
 }
 
 impl From<Refusal> for u16 {

@@ -35,6 +35,7 @@ pub fn answer_of<T: Copy>(number: u16, value: T) -> Option<Result<T, Refusal>>
         18 => Refusal::PixelCount,
         19 => Refusal::BlackWhite,
         20 => Refusal::Pixel,
+        21 => Refusal::Place,
         _ => return None,
     };
     Some(Err(refusal))

@@ -7,7 +7,7 @@ use Rattle.refusals.specs.Definitions.Outcomes.{outcome, answer_number}
 
 -- the greatest number
 abbrev pub greatest : ℕ
-greatest = 20
+greatest = 21
 
 pub record OneNumberEach : Type 1 where
   pub range : (r : Refusal) → (1 ≤ number r) × (number r ≤ greatest)

@@ -1,7 +1,7 @@
--- The number of each refusal (document 01, "Who can cause which refusal"; document 02, P1, P2 and P5). Assumes nothing.
+-- The number of each refusal (document 01, "Who can cause which refusal"; document 02, P1, P2, P5 and P6). Assumes nothing.
 use Rattle.std.specs.Prelude.{ℕ}
 use Rattle.refusals.specs.declared.Refusal.{Refusal}
-use Rattle.refusals.specs.declared.Refusal.TheVariants.{Size, Kernel, Bin, Reading, PictureLength, LevelsLength, WorkLength, FileLength, FileEnds, Count, Index, BytesAfter, Depth, Columns, Rows, Header, Greatest, PixelCount, BlackWhite, Pixel}
+use Rattle.refusals.specs.declared.Refusal.TheVariants.{Size, Kernel, Bin, Reading, PictureLength, LevelsLength, WorkLength, FileLength, FileEnds, Count, Index, BytesAfter, Depth, Columns, Rows, Header, Greatest, PixelCount, BlackWhite, Pixel, Place}
 
 abbrev pub number : Refusal → ℕ
 number Size = 1
@@ -24,3 +24,4 @@ number Greatest = 17
 number PixelCount = 18
 number BlackWhite = 19
 number Pixel = 20
+number Place = 21
