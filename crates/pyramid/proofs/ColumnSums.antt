@@ -15,7 +15,7 @@ use Rattle.pyramid.specs.Definitions.Weights.{weight}
 use Rattle.pyramid.specs.Definitions.Edge.{reflect}
 use Rattle.pyramid.specs.Inner.Rows.{as_level, row_at, column_sum, Within, Small}
 use Rattle.pyramid.proofs.Weights.{weight_symmetric, size}
-use Rattle.pyramid.proofs.Windows.{taps_small}
+use Rattle.pyramid.proofs.WeightedSums.{taps_small}
 use Rattle.pyramid.proofs.TapSums.{within_fits}
 
 -- ---- five taps

@@ -16,7 +16,7 @@ use Rattle.pyramid.specs.Definitions.Edge.{reflect}
 use Rattle.pyramid.specs.Definitions.Steps.{even_weight, halved, expand}
 use Rattle.pyramid.specs.Inner.Rows.{as_level, column_sum, Small}
 use Rattle.pyramid.proofs.Weights.{even_size, gain_most}
-use Rattle.pyramid.proofs.Windows.{window_columns}
+use Rattle.pyramid.proofs.WeightedSums.{weighted_columns}
 use Rattle.pyramid.proofs.Edge.{expand_inside}
 use Rattle.pyramid.proofs.TapSums.{within_more}
 use Rattle.pyramid.proofs.SmallBuffers.{small-tabulate}
@@ -46,7 +46,7 @@ module _ (k columns rows j : ℕ) (src : List ℤ) {sums : List ℤ} (is : sums 
       (sum_same 5 _ _ (λ t ht. ap (λ (z : ℤ). even_weight k i t *ℤ z)
       (ap (λ (m : List ℤ). get_or m (reflect (columns - 1) (halved i t)) (pos 0)) is
       ∙ get_or-tabulate columns (column k columns rows j src) (pos 0) (reflect (columns - 1) (halved i t)) (omega (arith, expand_inside (columns - 1) i t (omega arith) (omega arith) ht))))
-      ∙ sym (window_columns (even_weight k i) (even_weight k j) (λ t. reflect (columns - 1) (halved i t)) (λ t. reflect (rows - 1) (halved j t)) (as_level columns src)))
+      ∙ sym (weighted_columns (even_weight k i) (even_weight k j) (λ t. reflect (columns - 1) (halved i t)) (λ t. reflect (rows - 1) (halved j t)) (as_level columns src)))
 
   -- the row that is made along them, with each sum rounded
   pub row_expanded : 2 ≤ columns → {row : List ℤ} → row ≡ tabulate (2 * (length sums - 1) + 1) (along k (length sums - 1) sums)

@@ -1,7 +1,7 @@
 pub mod Lawful
 pub mod Sizes
 pub mod Weights
-pub mod Windows
+pub mod WeightedSums
 pub mod Edge
 pub mod Steps
 pub mod Differences

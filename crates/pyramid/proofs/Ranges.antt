@@ -31,7 +31,7 @@ use Rattle.pyramid.specs.Inner.Ranges.{EachNode, ReduceSums, ExpandSums, CodingR
 use Rattle.pyramid.specs.Inner.Lawful.{Kernel, LawfulBin, Lawful}
 use Rattle.pyramid.proofs.Sizes.{last-suc, last_least}
 use Rattle.pyramid.proofs.Weights.{weight-size, even_size, gain_most, hundredths_most}
-use Rattle.pyramid.proofs.Windows.{window_sums}
+use Rattle.pyramid.proofs.WeightedSums.{partial_sums}
 use Rattle.pyramid.proofs.Edge.{reduce_inside, expand_inside}
 use Rattle.pyramid.proofs.Buffers.{stack-all}
 use Rattle.pyramid.proofs.Steps.{spread, near_reduce, reduce_constant, expand_constant}
@@ -137,7 +137,7 @@ module _ (s : Settings) (law : Lawful s) where
 
   reduce_sums_lem : (l : ℕ) → l < s.depth → (g : Level) (e : ℕ) → NearAt s law l e g (λ i j. pos 0) → ReduceSums s l g e
   reduce_sums_lem l hl g e small i j hi hj =
-      window_sums (weight s.kernel) (weight s.kernel) (λ t. reflect (last s.columns l) (2 * i + t)) (λ t. reflect (last s.rows l) (2 * j + t)) g e
+      partial_sums (weight s.kernel) (weight s.kernel) (λ t. reflect (last s.columns l) (2 * i + t)) (λ t. reflect (last s.rows l) (2 * j + t)) g e
       (λ m n hm hn. abs_near (small _ _
       (reduce_inside (last s.columns l) i m (level_wide s law l hl) (omega (arith, last-suc s.columns l)) hm)
       (reduce_inside (last s.rows l) j n (level_high s law l hl) (omega (arith, last-suc s.rows l)) hn)))
@@ -145,7 +145,7 @@ module _ (s : Settings) (law : Lawful s) where
 
   expand_sums_lem : (l : ℕ) → l < s.depth → (g : Level) (e : ℕ) → NearAt s law (suc l) e g (λ i j. pos 0) → ExpandSums s l g e
   expand_sums_lem l hl g e small i j hi hj =
-      window_sums (even_weight s.kernel i) (even_weight s.kernel j) (λ t. reflect (last s.columns (suc l)) (halved i t)) (λ t. reflect (last s.rows (suc l)) (halved j t)) g e
+      partial_sums (even_weight s.kernel i) (even_weight s.kernel j) (λ t. reflect (last s.columns (suc l)) (halved i t)) (λ t. reflect (last s.rows (suc l)) (halved j t)) g e
       (λ m n hm hn. abs_near (small _ _
       (expand_inside (last s.columns (suc l)) i m (last_least law.shaped.across (suc l) hl) (omega (arith, last-suc s.columns l)) hm)
       (expand_inside (last s.rows (suc l)) j n (last_least law.shaped.along (suc l) hl) (omega (arith, last-suc s.rows l)) hn)))

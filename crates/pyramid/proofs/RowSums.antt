@@ -30,7 +30,7 @@ use Rattle.pyramid.proofs.Edge.{read_inside, reduce_inside, reduce_from, reduce_
 use Rattle.pyramid.proofs.Passes.{rows_then_columns}
 use Rattle.pyramid.proofs.SmallBuffers.{by_length, small-tabulate}
 use Rattle.pyramid.proofs.Weights.{weight-size}
-use Rattle.pyramid.proofs.Windows.{taps_small}
+use Rattle.pyramid.proofs.WeightedSums.{taps_small}
 
 -- ---- a row sum of small values is small
 

@@ -16,7 +16,7 @@ use Rattle.pyramid.specs.Definitions.Bound.{hundredths, magnified}
 use Rattle.pyramid.specs.Checks.Multiplier.{gain}
 use Rattle.pyramid.specs.Inner.Lawful.{Kernel}
 use Rattle.pyramid.proofs.Weights.{size, weight-sum, weight-size, even_sum, even_size, gain_square}
-use Rattle.pyramid.proofs.Windows.{window_constant, near_window}
+use Rattle.pyramid.proofs.WeightedSums.{weighted_constant, near_weighted}
 use Rattle.pyramid.proofs.Edge.{reduce_inside, expand_inside}
 
 -- two levels are at most e apart, at the nodes up to column zc and row zr
@@ -34,13 +34,13 @@ expanded = all₁ _ (λ p n. simp ints (omega arith))
 pub reduce_constant : {k : ℕ} → Kernel k → (zc zr : ℕ) (c : ℤ) (i j : ℕ) → reduce k zc zr (λ i j. c) i j ≡ c
 unfolding reduce
 reduce_constant {k} h zc zr c i j =
-    rw (window_constant (weight k) (weight k) (λ t. reflect zc (2 * i + t)) (λ t. reflect zr (2 * j + t)) c, weight-sum h, reduced c)
+    rw (weighted_constant (weight k) (weight k) (λ t. reflect zc (2 * i + t)) (λ t. reflect zr (2 * j + t)) c, weight-sum h, reduced c)
     (round_whole c 400 (lit< tt))
 
 pub expand_constant : {k : ℕ} → Kernel k → (zc zr : ℕ) (c : ℤ) (i j : ℕ) → expand k zc zr (λ i j. c) i j ≡ c
 unfolding expand
 expand_constant {k} h zc zr c i j =
-    rw (window_constant (even_weight k i) (even_weight k j) (λ t. reflect zc (halved i t)) (λ t. reflect zr (halved j t)) c, even_sum h i, even_sum h j, expanded c)
+    rw (weighted_constant (even_weight k i) (even_weight k j) (λ t. reflect zc (halved i t)) (λ t. reflect zr (halved j t)) c, even_sum h i, even_sum h j, expanded c)
     (round_whole c 400 (lit< tt))
 
 -- ---- distance
@@ -55,7 +55,7 @@ unfolding reduce
 near_reduce {k} h zc zr e u v close hc hr i j hi hj =
     round_near 400 (spread e) (lit< tt)
     (near_more (omega (arith, mul-le-mul (weight-size h) (mul-le-mul_right e (weight-size h))))
-    (near_window (weight k) (weight k) (λ t. reflect zc (2 * i + t)) (λ t. reflect zr (2 * j + t)) u v e
+    (near_weighted (weight k) (weight k) (λ t. reflect zc (2 * i + t)) (λ t. reflect zr (2 * j + t)) u v e
     (λ m n hm hn. close _ _ (reduce_inside zc i m hc hi hm) (reduce_inside zr j n hr hj hn))))
 
 covers : {k : ℕ} → Kernel k → (a b e : ℕ) → a ≤ gain k → b ≤ gain k → 4 * (a * (b * e)) ≤ magnified k e * 400
@@ -70,5 +70,5 @@ unfolding expand
 near_expand {k} h zc zr e u v close hc hr i j hi hj =
     round_near 400 (magnified k e) (lit< tt)
     (near_more (covers h (size (even_weight k i)) (size (even_weight k j)) e (even_size h i) (even_size h j))
-    (near_mul (pos 4) (near_window (even_weight k i) (even_weight k j) (λ t. reflect zc (halved i t)) (λ t. reflect zr (halved j t)) u v e
+    (near_mul (pos 4) (near_weighted (even_weight k i) (even_weight k j) (λ t. reflect zc (halved i t)) (λ t. reflect zr (halved j t)) u v e
     (λ m n hm hn. close _ _ (expand_inside zc i m hc hi hm) (expand_inside zr j n hr hj hn)))))

@@ -11,7 +11,7 @@ use Rattle.pyramid.specs.Definitions.Settings.{side_ok, depth_ok, divides, kerne
 use Rattle.pyramid.specs.Definitions.Sizes.{last, nodes_to, total}
 use Rattle.pyramid.specs.Definitions.Weights.{weights, weight}
 use Rattle.pyramid.specs.Definitions.Edge.{reflect}
-use Rattle.pyramid.specs.Definitions.Steps.{window, reduce, even_weight, expand}
+use Rattle.pyramid.specs.Definitions.Steps.{weighted_sum, reduce, even_weight, expand}
 use Rattle.pyramid.specs.Definitions.Pyramid.{index_of, average}
 use Rattle.pyramid.specs.Definitions.Rebuilding.{value_of, rebuild, clamp}
 use Rattle.pyramid.specs.Definitions.Manners.{reference, difference, index}
@@ -25,7 +25,7 @@ expanded : round_div (pos 28800) 400 ≡ pos 72
 expanded = round_at (pos 28800) 400 (pos 72) tt
 
 pub worked_greys : WorkedGreys
-unfolding sum all_below all tabulate side_ok depth_ok divides kernel_ok black_white_ok slot_ok size_ok bins_ok last nodes_to total weights weight reflect window reduce even_weight expand index_of average value_of rebuild clamp reference difference index raster pixels stack start read_levels unless first shape_refusal settings_refusal buffers_refusal values_ok lent_refusal pixels_ok coding_refusal rebuilding_refusal leaves coding rebuilding
+unfolding sum all_below all tabulate side_ok depth_ok divides kernel_ok black_white_ok slot_ok size_ok bins_ok last nodes_to total weights weight reflect weighted_sum reduce even_weight expand index_of average value_of rebuild clamp reference difference index raster pixels stack start read_levels unless first shape_refusal settings_refusal buffers_refusal values_ok lent_refusal pixels_ok coding_refusal rebuilding_refusal leaves coding rebuilding
 worked_greys = record {
   -- the average, EXPAND of 71, the index of the average, and those of what level 0 codes
   coded = simp (

@@ -10,7 +10,7 @@ use Rattle.pyramid.specs.Definitions.Settings.{side_ok, depth_ok, divides, kerne
 use Rattle.pyramid.specs.Definitions.Sizes.{last, nodes_to, total}
 use Rattle.pyramid.specs.Definitions.Weights.{weights, weight}
 use Rattle.pyramid.specs.Definitions.Edge.{reflect}
-use Rattle.pyramid.specs.Definitions.Steps.{window, reduce, even_weight, expand}
+use Rattle.pyramid.specs.Definitions.Steps.{weighted_sum, reduce, even_weight, expand}
 use Rattle.pyramid.specs.Definitions.Pyramid.{index_of, average}
 use Rattle.pyramid.specs.Definitions.Rebuilding.{value_of}
 use Rattle.pyramid.specs.Definitions.Manners.{quantized, closed_rebuilt, reference, difference, index}
@@ -21,7 +21,7 @@ use Rattle.pyramid.specs.Definitions.Calls.{leaves, coding}
 use Rattle.pyramid.specs.Checks.WorkedLoops.{WorkedLoops}
 
 pub worked_loops : WorkedLoops
-unfolding sum all_below all tabulate side_ok depth_ok divides kernel_ok black_white_ok slot_ok size_ok bins_ok last nodes_to total weights weight reflect window reduce even_weight expand index_of average value_of quantized closed_rebuilt reference difference index tolerance bound_at raster pixels stack unless first shape_refusal settings_refusal buffers_refusal lent_refusal pixels_ok coding_refusal leaves coding
+unfolding sum all_below all tabulate side_ok depth_ok divides kernel_ok black_white_ok slot_ok size_ok bins_ok last nodes_to total weights weight reflect weighted_sum reduce even_weight expand index_of average value_of quantized closed_rebuilt reference difference index tolerance bound_at raster pixels stack unless first shape_refusal settings_refusal buffers_refusal lent_refusal pixels_ok coding_refusal leaves coding
 worked_loops = record {
   -- the average, EXPAND of 24, the index of the average, and those of what level 0 codes
   of_a = simp (

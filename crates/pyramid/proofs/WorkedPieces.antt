@@ -12,7 +12,7 @@ use Rattle.pyramid.specs.Definitions.Settings.{side_ok, depth_ok, divides, kerne
 use Rattle.pyramid.specs.Definitions.Sizes.{last, nodes_to, total}
 use Rattle.pyramid.specs.Definitions.Weights.{weights, weight}
 use Rattle.pyramid.specs.Definitions.Edge.{reflect}
-use Rattle.pyramid.specs.Definitions.Steps.{window, reduce, even_weight, expand}
+use Rattle.pyramid.specs.Definitions.Steps.{weighted_sum, reduce, even_weight, expand}
 use Rattle.pyramid.specs.Definitions.Pyramid.{index_of, average}
 use Rattle.pyramid.specs.Definitions.Rebuilding.{value_of, rebuild, clamp}
 use Rattle.pyramid.specs.Definitions.Manners.{quantized, closed_rebuilt, reference, difference, index}
@@ -64,7 +64,7 @@ expand_right = round_at (negsuc 79) 400 (pos 0) tt
 ruleset answers = (average_a_lem, top_a, centre_a, others_a, rebuilt_a_lem, corner_near, corner_side, corner_far, expand_left, expand_middle, expand_right)
 
 pub worked_pieces : WorkedPieces
-unfolding sum all_below all tabulate side_ok depth_ok divides kernel_ok black_white_ok slot_ok size_ok bins_ok last nodes_to total weights weight reflect window reduce even_weight expand index_of average value_of rebuild clamp quantized closed_rebuilt reference difference index hundredths magnified tolerance bound bound_at raster pixels stack start read_levels unless first shape_refusal settings_refusal buffers_refusal values_ok lent_refusal pixels_ok coding_refusal rebuilding_refusal leaves coding rebuilding
+unfolding sum all_below all tabulate side_ok depth_ok divides kernel_ok black_white_ok slot_ok size_ok bins_ok last nodes_to total weights weight reflect weighted_sum reduce even_weight expand index_of average value_of rebuild clamp quantized closed_rebuilt reference difference index hundredths magnified tolerance bound bound_at raster pixels stack start read_levels unless first shape_refusal settings_refusal buffers_refusal values_ok lent_refusal pixels_ok coding_refusal rebuilding_refusal leaves coding rebuilding
 worked_pieces = record {
   average_a = simp answers;
   difference_a = simp answers;

@@ -12,12 +12,12 @@ use Rattle.pyramid.specs.Definitions.Rebuilding.{value_of, rebuilt}
 use Rattle.pyramid.specs.Definitions.Manners.{reference, difference, index}
 use Rattle.pyramid.specs.Definitions.Refusals.{limit}
 
--- the part of a window that lies in one row, without that row's weight: a window is the sum of these, each times its row's weight
+-- the part of a weighted sum that lies in one row, without that row's weight: the whole is the sum of these, each times its row's weight
 abbrev pub row_sum : (ℕ → ℤ) → (ℕ → ℕ) → (ℕ → ℕ) → Level → ℕ → ℤ
 row_sum a x y g n = sum 5 (λ m. a m *ℤ g (x m) (y n))
 
--- every partial sum of a window: along each row, and of the rows
-pub record WindowSums (a b : ℕ → ℤ) (x y : ℕ → ℕ) (g : Level) (row column : ℕ) : Type 0 where
+-- every partial sum of a weighted sum: along each row, and of the rows
+pub record PartialSums (a b : ℕ → ℤ) (x y : ℕ → ℕ) (g : Level) (row column : ℕ) : Type 0 where
   pub rows : (m n : ℕ) → m ≤ 5 → n < 5 → nat_abs (sum m (λ t. a t *ℤ g (x t) (y n))) ≤ row
   pub columns : (n : ℕ) → n ≤ 5 → nat_abs (sum n (λ t. b t *ℤ row_sum a x y g t)) ≤ column
 
@@ -29,12 +29,12 @@ module _ (s : Settings) where
   -- the sums of REDUCE of level l, whose values lie within e of 0, and of EXPAND of the level above l
   abbrev pub ReduceSums : ℕ → Level → ℕ → Type 0
   ReduceSums l g e =
-      EachNode (suc l) (λ i j. WindowSums (weight s.kernel) (weight s.kernel)
+      EachNode (suc l) (λ i j. PartialSums (weight s.kernel) (weight s.kernel)
       (λ t. reflect (last s.columns l) (2 * i + t)) (λ t. reflect (last s.rows l) (2 * j + t)) g (24 * e) (24 * (24 * e)))
 
   abbrev pub ExpandSums : ℕ → Level → ℕ → Type 0
   ExpandSums l g e =
-      EachNode l (λ i j. WindowSums (even_weight s.kernel i) (even_weight s.kernel j)
+      EachNode l (λ i j. PartialSums (even_weight s.kernel i) (even_weight s.kernel j)
       (λ t. reflect (last s.columns (suc l)) (halved i t)) (λ t. reflect (last s.rows (suc l)) (halved j t)) g (14 * e) (14 * (14 * e)))
 
   -- of coding averages g in a manner
@@ -53,6 +53,6 @@ module _ (s : Settings) where
     pub rebuilt_values : (l : ℕ) → l ≤ s.depth → EachNode l (λ i j. nat_abs (rebuilt s m l i j) ≤ 2 ^ 19)
     pub expand_sums : (l : ℕ) → l < s.depth → ExpandSums l (rebuilt s m (suc l)) (2 ^ 19)
 
--- the largest of all these, four times a window of EXPAND, fits 32 bits
+-- the largest of all these, four times a weighted sum of EXPAND, fits 32 bits
 abbrev pub Fits32 : Type 0
 Fits32 = 4 * (14 * (14 * 2 ^ 19)) < 2 ^ 31

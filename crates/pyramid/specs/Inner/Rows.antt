@@ -1,4 +1,4 @@
--- The steps row by row, for the contracts of functions inside this crate: a level read from a buffer, the part of a window that lies in one
+-- The steps row by row, for the contracts of functions inside this crate: a level read from a buffer, the part of a weighted sum that lies in one
 -- column, and what is put in the place of a part of a buffer. Assumes nothing.
 use Rattle.std.specs.Prelude.{◌≡◌, List, ℕ, ◌+◌, ◌-◌, ◌*◌, ◌/◌, ◌%◌, ◌≤◌, ◌<◌, ℤ, pos, nat_abs, ◌+ℤ◌, ◌-ℤ◌, ◌*ℤ◌, length, get_or}
 use Rattle.mathematics.specs.Definitions.Sums.{sum}
@@ -18,7 +18,7 @@ as_level columns buffer i j = get_or buffer (j * columns + i) (pos 0)
 abbrev pub row_at : (columns rows p : ℕ) → List ℤ → List ℤ
 row_at columns rows p buffer = part (reflect (rows - 1) p * columns) (reflect (rows - 1) p * columns + columns) buffer
 
--- the part of a window that lies in one column, without that column's weight
+-- the part of a weighted sum that lies in one column, without that column's weight
 unfoldable pub column_sum : (ℕ → ℤ) → (ℕ → ℕ) → Level → ℕ → ℤ
 column_sum b y g x = sum 5 (λ n. b n *ℤ g x (y n))
 

@@ -1,4 +1,4 @@
--- Laws of the window: rows before columns, columns before rows, a constant level, how far apart windows over two levels are, and the size of every partial sum.
+-- Laws of the weighted sum: rows before columns, columns before rows, a constant level, how far apart those of two levels are, and the size of every partial sum.
 -- Assumes nothing.
 use mathlib.Core.Path.{◌≡◌, ap, ◌∙◌, subst, fun_ext}
 use Prim.Native.Nat.{ℕ, ◌*◌, ◌≤◌, ◌<◌}
@@ -11,10 +11,10 @@ use Rattle.mathematics.proofs.IntegerLaws.{*ℤ-assoc, abs-*ℤ, abs_product}
 use Rattle.mathematics.proofs.Distance.{Near, near_mul}
 use Rattle.mathematics.proofs.Sums.{total, mul_total, total_mul, total_mono, near_sum, abs_of_sum, sum_scale, sum_swap}
 use Rattle.pyramid.specs.Definitions.Sizes.{Level}
-use Rattle.pyramid.specs.Definitions.Steps.{window}
+use Rattle.pyramid.specs.Definitions.Steps.{weighted_sum}
 use Rattle.pyramid.specs.Inner.Ranges.{row_sum}
 use Rattle.pyramid.specs.Inner.Rows.{column_sum}
-use Rattle.pyramid.specs.Inner.Ranges.{WindowSums}
+use Rattle.pyramid.specs.Inner.Ranges.{PartialSums}
 use Rattle.pyramid.proofs.Weights.{size}
 
 factor : (a b v : ℤ) → a *ℤ b *ℤ v ≡ b *ℤ (a *ℤ v)
@@ -31,22 +31,22 @@ taps_small w v m e h small =
 
 module _ (a b : ℕ → ℤ) (x y : ℕ → ℕ) where
   -- along the rows first, then down the columns
-  pub window_rows : (g : Level) → window a b x y g ≡ sum 5 (λ n. b n *ℤ row_sum a x y g n)
-  unfolding window
-  window_rows g =
+  pub weighted_rows : (g : Level) → weighted_sum a b x y g ≡ sum 5 (λ n. b n *ℤ row_sum a x y g n)
+  unfolding weighted_sum
+  weighted_rows g =
       ap (sum 5) (fun_ext (λ n. ap (sum 5) (fun_ext (λ m. factor (a m) (b n) (g (x m) (y n)))) ∙ sum_scale (b n) 5 (λ m. a m *ℤ g (x m) (y n))))
 
   -- down the columns first, then along the rows
-  pub window_columns : (g : Level) → window a b x y g ≡ sum 5 (λ m. a m *ℤ column_sum b y g (x m))
-  unfolding window column_sum
-  window_columns g =
+  pub weighted_columns : (g : Level) → weighted_sum a b x y g ≡ sum 5 (λ m. a m *ℤ column_sum b y g (x m))
+  unfolding weighted_sum column_sum
+  weighted_columns g =
       sum_swap 5 5 (λ n m. a m *ℤ b n *ℤ g (x m) (y n))
       ∙ ap (sum 5) (fun_ext (λ m. ap (sum 5) (fun_ext (λ n. *ℤ-assoc (a m) (b n) (g (x m) (y n)))) ∙ sum_scale (a m) 5 (λ n. b n *ℤ g (x m) (y n))))
 
   -- a level that is c everywhere
-  pub window_constant : (c : ℤ) → window a b x y (λ i j. c) ≡ (sum 5 a *ℤ sum 5 b) *ℤ c
-  window_constant c =
-      window_rows (λ i j. c)
+  pub weighted_constant : (c : ℤ) → weighted_sum a b x y (λ i j. c) ≡ (sum 5 a *ℤ sum 5 b) *ℤ c
+  weighted_constant c =
+      weighted_rows (λ i j. c)
       ∙ ap (sum 5) (fun_ext (λ n. ap (λ (z : ℤ). b n *ℤ z) row ∙ *ℤ_comm (b n) (c *ℤ sum 5 a)))
       ∙ sum_scale (c *ℤ sum 5 a) 5 b
       ∙ turn (sum 5 a) (sum 5 b) c
@@ -67,10 +67,10 @@ module _ (a b : ℕ → ℤ) (x y : ℕ → ℕ) where
         ∙ mul_total (size a) 5 (λ n. nat_abs (b n) * e)
         ∙ ap (λ (k : ℕ). size a * k) (total_mul e 5 (λ n. nat_abs (b n)))
 
-    pub near_window : Near (size a * (size b * e)) (window a b x y u) (window a b x y v)
-    unfolding window
-    near_window =
-        subst (λ (n : ℕ). Near n (window a b x y u) (window a b x y v)) whole
+    pub near_weighted : Near (size a * (size b * e)) (weighted_sum a b x y u) (weighted_sum a b x y v)
+    unfolding weighted_sum
+    near_weighted =
+        subst (λ (n : ℕ). Near n (weighted_sum a b x y u) (weighted_sum a b x y v)) whole
         (near_sum 5 _ _ (λ n. total 5 (λ m. far n m)) (λ n hn. near_sum 5 _ _ (λ m. far n m) (λ m hm.
         subst (λ (d : ℕ). Near d (a m *ℤ b n *ℤ u (x m) (y n)) (a m *ℤ b n *ℤ v (x m) (y n))) (each n m)
         (near_mul (a m *ℤ b n) (close m n hm hn)))))
@@ -83,8 +83,8 @@ module _ (a b : ℕ → ℤ) (x y : ℕ → ℕ) where
     column n hn = taps_small b (row_sum a x y g) n (size a * e) hn (λ t ht. row 5 t (le_refl 5) (omega arith))
 
     -- every partial sum, for weights whose sizes together are at most c
-    pub window_sums : (c : ℕ) → size a ≤ c → size b ≤ c → WindowSums a b x y g (c * e) (c * (c * e))
-    window_sums c ha hb =
+    pub partial_sums : (c : ℕ) → size a ≤ c → size b ≤ c → PartialSums a b x y g (c * e) (c * (c * e))
+    partial_sums c ha hb =
         record {
           rows = λ m n hm hn. le_trans (row m n hm hn) (mul-le-mul_right e ha);
           columns = λ n hn. le_trans (column n hn) (mul-le-mul hb (mul-le-mul_right e ha));
