@@ -2,6 +2,7 @@ pub mod Lawful
 pub mod Sizes
 pub mod Weights
 pub mod WeightedSums
+pub mod NodesRead
 pub mod Edge
 pub mod Steps
 pub mod Differences

@@ -18,16 +18,25 @@ pub fn load(picture: &[u8], values: &mut [i32])
     }
 }
 
+impl LawfulSettings {
+    // A value as it is shown: clamped to black and white.
+    // Kept: clamped to bytes first, so that the compiler puts sixteen values of a picture into bytes at a time, and clamps these.
+    pub fn clamp(self, value: i32) -> u8
+        ensures { result ≡ clamp self value }
+    {
+        let black = self.settings.black as u8;
+        let white = self.settings.white as u8;
+        (value.clamp(0, 255) as u8).max(black).min(white)
+    }
+}
+
 // The final picture: every value clamped to black and white.
-// Kept: clamped to bytes first, so that the compiler puts sixteen values into bytes at a time, and clamps these.
 pub fn clamp_all(lawful: LawfulSettings, src: &[i32], picture: &mut [u8])
     requires { length src.now ≡ length picture.old }
     ensures { picture.new ≡ map (clamp lawful) src.now }
 {
-    let black = lawful.settings.black as u8;
-    let white = lawful.settings.white as u8;
     for (i, &x) in src.iter().enumerate() {
-        picture[i] = (x.clamp(0, 255) as u8).max(black).min(white);
+        picture[i] = lawful.clamp(x);
     }
 }
 

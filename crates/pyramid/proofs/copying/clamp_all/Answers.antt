@@ -1,10 +1,10 @@
 -- `pyramid::copying::clamp_all` meets its contract: each turn of its loop clamps one value. Assumes nothing.
-use Rattle.std.proofs.Common.{◌∙◌, pos, arith, rules}
+use Rattle.std.proofs.Common.{◌∙◌, ap, pos, arith, rules}
+use Rattle.mathematics.proofs.Held.{held_is}
 use Rattle.mathematics.proofs.Splices.{splice_whole}
 use Rattle.mathematics.proofs.Tables.{length-tabulate, tabulate-map}
 use Rattle.mathematics.proofs.Filling.{filling_start, filling_next, filling_end}
 use Rattle.pyramid.specs.Definitions.Rebuilding.{clamp}
-use Rattle.pyramid.proofs.Copies.{clamped_stored}
 use Rattle.pyramid.proofs.copying.clamp_all.Goals as goal
 
 pub loop-i-init : goal.loop-i-init
@@ -12,9 +12,7 @@ loop-i-init c = filling_start _ _ _ _
 
 pub loop-i-preserved : goal.loop-i-preserved
 loop-i-preserved c =
-    filling_next c.loop-i.invariant (omega arith) (omega arith)
-    (c.min.ensures ∙ rw (← c.lawful.view_is, c.max.ensures) (clamped_stored c.lawful.inside.settings c.lawful.invariant.shaped.greys (search rules) (search rules) c.clamp.ensures.value))
-    (omega arith)
+    filling_next c.loop-i.invariant (omega arith) (omega arith) (c.clamp.ensures ∙ ap (clamp c.args.lawful) (held_is (search rules))) (omega arith)
 
 pub returns : goal.returns
 returns c =
