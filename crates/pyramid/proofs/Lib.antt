@@ -3,6 +3,7 @@ pub mod Sizes
 pub mod Weights
 pub mod WeightedSums
 pub mod NodesRead
+pub mod RebuiltValues
 pub mod Edge
 pub mod Steps
 pub mod Differences

@@ -27,7 +27,7 @@ use Rattle.pyramid.specs.Definitions.Manners.{reference, difference, index}
 use Rattle.pyramid.specs.Definitions.Buffers.{Bytes, pixels, read_levels}
 use Rattle.pyramid.specs.Definitions.Bound.{magnified, tolerance}
 use Rattle.pyramid.specs.Definitions.Refusals.{limit, values_ok}
-use Rattle.pyramid.specs.Inner.Ranges.{EachNode, ReduceSums, ExpandSums, CodingRanges, RebuildingRanges, Fits32}
+use Rattle.pyramid.specs.Inner.Ranges.{EachNode, ReduceSums, ExpandSums, CodingRanges, RebuildingRanges, height, Fits32}
 use Rattle.pyramid.specs.Inner.Lawful.{Kernel, LawfulBin, Lawful}
 use Rattle.pyramid.proofs.Sizes.{last-suc, last_least}
 use Rattle.pyramid.proofs.Weights.{weight-size, even_size, gain_most, hundredths_most}
@@ -57,12 +57,7 @@ difference_room : (l : ℕ) → l < 6 → spread_to l + (196 * (127 + spread_to 
 difference_room l h =
     leb→le _ 3968 (below_at 6 (λ l. leb (spread_to l + (196 * (127 + spread_to (suc l)) + 99) / 100) 3968) (unfold all_below spread_to in tt) l h)
 
--- how far from 0 rebuilt values can lie, with d levels above
-height : ℕ → ℕ
-height zero = limit
-height (suc d) = limit + (196 * height d + 99) / 100
-
-height_room : (d : ℕ) → d ≤ 6 → height d ≤ 2 ^ 19
+pub height_room : (d : ℕ) → d ≤ 6 → height d ≤ 2 ^ 19
 height_room d h = leb→le (height d) (2 ^ 19) (below_at 7 (λ d. leb (height d) (2 ^ 19)) (unfold all_below height in tt) d (omega arith))
 
 module _ (s : Settings) (law : Lawful s) where
@@ -191,30 +186,23 @@ module _ (s : Settings) (law : Lawful s) where
         → CodingRanges s manner g
     ranges_like manner g same = ranges_of manner g (λ l hl i j hi hj. rw (same l hl i j (omega arith) (omega arith)) (picture_averaged l hl i j hi hj))
 
-  -- what is rebuilt from any levels whose values lie within the limit
-  module _ (m : ℕ → Level) (accepted : (l : ℕ) → l ≤ s.depth → EachNode s l (λ i j. nat_abs (value_of s l (m l i j)) ≤ limit)) where
-    near_accepted : (l : ℕ) → l ≤ s.depth → NearAt s law l (height (s.depth - l)) (rebuilt s m l) (λ i j. pos 0)
-    near_accepted l hl = near_rebuilt m (λ l hl i j hi hj. near_zero _ (accepted l hl i j (omega arith) (omega arith))) (s.depth - l) l (omega arith)
-
-    near_most : (l : ℕ) → l ≤ s.depth → NearAt s law l (2 ^ 19) (rebuilt s m l) (λ i j. pos 0)
-    near_most l hl = wider l (near_accepted l hl) (2 ^ 19) (height_room (s.depth - l) (omega (arith, law.shaped.deep)))
-
-    pub rebuilt_most : (l : ℕ) → l ≤ s.depth → EachNode s l (λ i j. nat_abs (rebuilt s m l i j) ≤ 2 ^ 19)
-    rebuilt_most l hl i j hi hj = abs_near (near_most l hl i j (omega arith) (omega arith))
-
   pub rebuilding_ranges : (levels : List ℤ) → T (values_ok s levels) → RebuildingRanges s (read_levels s levels)
   unfolding values_ok
   rebuilding_ranges levels t = record {
-    values = accepted;
-    rebuilt_values = rebuilt_most m accepted;
-    expand_sums = λ l hl. expand_sums_lem l hl (rebuilt s m (suc l)) (2 ^ 19) (near_most m accepted (suc l) hl);
+    values = λ l hl i j hi hj. leb→le _ limit (stack-all s (λ v. leb (nat_abs v) limit) v s.depth t l i j hl hi hj);
+    rebuilt_values = λ l hl. each l (near_rebuilt m accepted (s.depth - l) l (omega arith)) (2 ^ 19) (height_room (s.depth - l) (omega (arith, law.shaped.deep)));
+    expand_sums = λ l hl. expand_sums_lem l hl (rebuilt s m (suc l)) (2 ^ 19)
+        (wider (suc l) (near_rebuilt m accepted (s.depth - suc l) (suc l) (omega arith)) (2 ^ 19) (height_room (s.depth - suc l) (omega (arith, law.shaped.deep))));
   }
     where
       m : ℕ → Level
       m = read_levels s levels
 
-      accepted : (l : ℕ) → l ≤ s.depth → EachNode s l (λ i j. nat_abs (value_of s l (m l i j)) ≤ limit)
-      accepted l hl i j hi hj = leb→le _ limit (stack-all s (λ v. leb (nat_abs v) limit) (λ l i j. value_of s l (m l i j)) s.depth t l i j hl hi hj)
+      v : ℕ → Level
+      v l i j = value_of s l (m l i j)
+
+      accepted : (l : ℕ) → l ≤ s.depth → NearAt s law l limit (v l) (λ i j. pos 0)
+      accepted l hl i j hi hj = near_zero (v l i j) (leb→le _ limit (stack-all s (λ v. leb (nat_abs v) limit) v s.depth t l i j hl (omega arith) (omega arith)))
 
 pub fits32 : Fits32
 fits32 = lit< tt

@@ -1,6 +1,6 @@
 -- The ranges of the numbers that coding and rebuilding make, and of every sum on the way to them: 32 bits hold them all. What functions
 -- inside this crate ask of their caller. Assumes nothing.
-use Rattle.std.specs.Prelude.{ℕ, suc, ◌*◌, ◌+◌, ◌^◌, ◌≤◌, ◌<◌, ℤ, nat_abs, ◌*ℤ◌}
+use Rattle.std.specs.Prelude.{ℕ, zero, suc, ◌*◌, ◌+◌, ◌/◌, ◌^◌, ◌≤◌, ◌<◌, ℤ, nat_abs, ◌*ℤ◌}
 use Rattle.mathematics.specs.Definitions.Sums.{sum}
 use Rattle.pyramid.specs.declared.Settings.{Settings}
 use Rattle.pyramid.specs.declared.Manner.{Manner}
@@ -52,6 +52,11 @@ module _ (s : Settings) where
     pub values : (l : ℕ) → l ≤ s.depth → EachNode l (λ i j. nat_abs (value_of s l (m l i j)) ≤ limit)
     pub rebuilt_values : (l : ℕ) → l ≤ s.depth → EachNode l (λ i j. nat_abs (rebuilt s m l i j) ≤ 2 ^ 19)
     pub expand_sums : (l : ℕ) → l < s.depth → ExpandSums l (rebuilt s m (suc l)) (2 ^ 19)
+
+-- how far from 0 rebuilt values can lie, with d levels above: the limit, and what EXPAND makes of the distance above
+unfoldable pub height : ℕ → ℕ
+height zero = limit
+height (suc d) = limit + (196 * height d + 99) / 100
 
 -- the largest of all these, four times a weighted sum of EXPAND, fits 32 bits
 abbrev pub Fits32 : Type 0

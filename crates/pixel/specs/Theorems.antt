@@ -1,0 +1,2 @@
+pub mod FullRebuilding
+pub mod Windows
