@@ -1,4 +1,3 @@
 pub mod Definitions
 pub mod Theorems
-pub mod Checks
 pub mod Inner

@@ -10,6 +10,17 @@ pub struct Range {
 }
 
 impl Range {
+    // That of a pixel's column (row) at level 0.
+    pub fn of(place: u16) -> Range
+        ensures { (result.first ≡ place) × (result.last ≡ place) }
+    {
+        let place = usize::from(place);
+        Range {
+            first: place,
+            last: place,
+        }
+    }
+
     // The range of the level above, whose last column (row) is z.
     pub fn above(self, z: usize) -> Range
         requires { self.last ≤ 128 }

@@ -44,13 +44,13 @@ even_regroup = all₅ _ (λ p n q m r s t u v w. simp ints (omega arith))
 odd_regroup : (a b c d e : ℤ) → pos 0 +ℤ pos 0 *ℤ a +ℤ b +ℤ pos 0 *ℤ c +ℤ d +ℤ pos 0 *ℤ e ≡ d +ℤ b
 odd_regroup = all₅ _ (λ p n q m r s t u v w. simp ints (omega arith))
 
-even_taps : (k : ℕ) (v : ℕ → ℤ) → sum 5 (λ t. even_weight k 0 t *ℤ v t) ≡ three k (v 4) (v 2) (v 0)
+pub even_taps : (k : ℕ) (v : ℕ → ℤ) → sum 5 (λ t. even_weight k 0 t *ℤ v t) ≡ three k (v 4) (v 2) (v 0)
 unfolding sum even_weight
 even_taps k v =
     rw (sym (weight_symmetric k 0 (omega arith)), *ℤ-+ℤ (weight k 4) (v 4) (v 0))
     (even_regroup (weight k 4 *ℤ v 0) (v 1) (weight k 2 *ℤ v 2) (v 3) (weight k 4 *ℤ v 4))
 
-odd_taps : (k : ℕ) (v : ℕ → ℤ) → sum 5 (λ t. even_weight k 1 t *ℤ v t) ≡ two k (v 3) (v 1)
+pub odd_taps : (k : ℕ) (v : ℕ → ℤ) → sum 5 (λ t. even_weight k 1 t *ℤ v t) ≡ two k (v 3) (v 1)
 unfolding sum even_weight
 odd_taps k v =
     rw (sym (weight_symmetric k 1 (omega arith)), *ℤ-+ℤ (weight k 3) (v 3) (v 1))

@@ -6,7 +6,8 @@ use native.Mathlib.Decide.{ℕ_discrete}
 use native.Mathlib.Omega.{arith}
 use borrow.Author.Tests.{ne_eqb}
 use lib.IntN.{ℤ, pos, ◌*ℤ◌}
-use Rattle.mathematics.proofs.Integers.{ints, all₃}
+use Rattle.mathematics.proofs.Integers.{ints, all₂, all₃}
+use Rattle.mathematics.specs.Definitions.Sums.{sum}
 use Rattle.mathematics.proofs.Sums.{sum_same}
 use Rattle.quantizer.specs.Definitions.Rounding.{round_div}
 use Rattle.pyramid.specs.Definitions.Sizes.{Level}
@@ -17,6 +18,17 @@ use Rattle.pyramid.specs.Definitions.Steps.{weighted_sum, even_weight, halved, e
 no_weight : (k i t : ℕ) → ((i + t) % 2 ≡ 0 → ⊥) → even_weight k i t ≡ pos 0
 unfolding even_weight
 no_weight k i t odd = rw (ne_eqb _ _ odd)
+
+-- sums that agree in the taps that are taken
+pub taps_same : (k i : ℕ) (u v : ℕ → ℤ) → ((t : ℕ) → t < 5 → (i + t) % 2 ≡ 0 → u t ≡ v t) → sum 5 (λ t. even_weight k i t *ℤ u t) ≡ sum 5 (λ t. even_weight k i t *ℤ v t)
+taps_same k i u v same = sum_same 5 _ _ (λ t ht. each t (same t ht) (ℕ_discrete ((i + t) % 2) 0))
+  where
+    none : (x y : ℤ) → pos 0 *ℤ x ≡ pos 0 *ℤ y
+    none = all₂ _ (λ p n q m. simp ints (omega arith))
+
+    each : (t : ℕ) → ((i + t) % 2 ≡ 0 → u t ≡ v t) → Dec ((i + t) % 2 ≡ 0) → even_weight k i t *ℤ u t ≡ even_weight k i t *ℤ v t
+    each t same (yes e) = ap (λ (z : ℤ). even_weight k i t *ℤ z) (same e)
+    each t same (no odd) = rw (no_weight k i t odd) (none (u t) (v t))
 
 no_column : (b u v : ℤ) → pos 0 *ℤ b *ℤ u ≡ pos 0 *ℤ b *ℤ v
 no_column = all₃ _ (λ p n q m r s. simp ints (omega arith))

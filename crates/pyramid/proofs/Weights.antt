@@ -1,18 +1,18 @@
 -- The rules of the table of weights, each by one test over the whole table: the paper's formula, which nothing else meets, symmetry, sums,
--- sums of sizes, the same for the taps that EXPAND takes at even and at odd columns, a row of the table, and half of the centre's weight. Assumes nothing.
-use mathlib.Core.Path.{◌≡◌, refl, sym, ap, ◌∙◌, fun_ext}
+-- sums of sizes, the same for the taps that EXPAND takes at even and at odd columns, and half of the centre's weight. Assumes nothing.
+use mathlib.Core.Path.{◌≡◌, sym, ap, ◌∙◌, fun_ext}
 use mathlib.Core.Bool.{Bool, false, cond}
 use Prim.Native.Nat.{ℕ, zero, suc, ◌+◌, ◌-◌, ◌*◌, ◌%◌, ◌≤◌, ◌<◌}
 use native.Mathlib.Nat.{mod-add-mod}
 use native.Mathlib.Omega.{arith}
 use lib.Dec.{T, leb, eqb, leb→le, eqb→eq}
 use lib.IntN.{ℤ, pos, negsuc, nat_abs, ◌-ℤ◌}
-use lib.ListN.{length, get_or}
+use lib.ListN.{get_or}
 use lib.Signed.{quot_z}
 use mir.Syntax.{w32}
 use mir.Val.{SFits}
 use Rattle.std.proofs.lemmas.Int.{ints}
-use mathlib.Core.List.{List, [], ◌∷◌}
+use mathlib.Core.List.{[], ◌∷◌}
 use Rattle.mathematics.specs.Definitions.Tests.{all_below}
 use Rattle.mathematics.specs.Definitions.Sums.{sum}
 use Rattle.mathematics.proofs.Tests.{below_at, between_at}
@@ -122,20 +122,6 @@ multipliers k least most = let h : Kernel k = record { least = least; most = mos
 
 pub hundredths_most : {k : ℕ} → Kernel k → hundredths k ≤ 196
 hundredths_most {k} h = leb→le (hundredths k) 196 (at_kernel (λ k. leb (hundredths k) 196) (unfold all_below hundredths in tt) h)
-
--- ---- a row of the table
-
-three_of : (row : List ℤ) → T (eqb (length row) 3) → row ≡ get_or row 0 (pos 0) ∷ get_or row 1 (pos 0) ∷ get_or row 2 (pos 0) ∷ []
-three_of [] t = absurd t
-three_of (a ∷ []) t = absurd t
-three_of (a ∷ b ∷ []) t = absurd t
-three_of (a ∷ b ∷ c ∷ []) t = refl
-three_of (a ∷ b ∷ c ∷ d ∷ more) t = absurd (omega (arith, eqb→eq (suc (suc (suc (suc (length more))))) 3 t))
-
--- it has a kernel's weights, by distance
-pub weights_row : {k n : ℕ} → Kernel k → n ≡ k - 3 → get_or weights n [] ≡ weight k 2 ∷ weight k 3 ∷ weight k 4 ∷ []
-unfolding weight
-weights_row {k} h e = rw e (three_of (get_or weights (k - 3) []) (at_kernel (λ k. eqb (length (get_or weights (k - 3) [])) 3) (unfold all_below weights in tt) h))
 
 -- ---- half of the centre's weight, as `Weights::new` forms it
 

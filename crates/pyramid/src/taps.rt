@@ -1,23 +1,12 @@
 // The weights, the edge, and the sums of products that REDUCE and EXPAND are made of (document 01, "Pyramid steps").
-ghost use Rattle.std.specs.Prelude.{◌≡◌, [], ◌∷◌, ◌+◌, ◌-◌, ◌*◌, ◌≤◌, pos, ◌+ℤ◌, ◌*ℤ◌};
+ghost use Rattle.std.specs.Prelude.{◌≡◌, ◌+◌, ◌-◌, ◌*◌, ◌≤◌, pos, ◌+ℤ◌, ◌*ℤ◌};
 ghost use Rattle.pyramid.specs.Inner.Lawful.{Kernel};
 ghost use Rattle.pyramid.specs.Definitions.Weights.{weight};
 ghost use Rattle.pyramid.specs.Definitions.Edge.{reflect};
 ghost use Rattle.pyramid.specs.Inner.Rows.{Within};
 
-use crate::LawfulSettings;
-
 // In twentieths: a row for each kernel from 3 to 6, a column for each distance from the centre.
 const WEIGHTS: [[i32; 3]; 4] = [[6, 5, 2], [8, 5, 1], [10, 5, 0], [12, 5, -1]];
-
-impl LawfulSettings {
-    // The weights of the kernel, in twentieths, for distance 0, 1, 2 from the centre.
-    pub fn weights(self) -> [i32; 3]
-        ensures { result ≡ weight self.kernel 2 ∷ weight self.kernel 3 ∷ weight self.kernel 4 ∷ [] }
-    {
-        WEIGHTS[usize::from(self.settings.kernel - 3)]
-    }
-}
 
 // The weight beside the centre, which all kernels share.
 const BESIDE: i32 = WEIGHTS[0][1];

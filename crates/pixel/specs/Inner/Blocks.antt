@@ -1,5 +1,5 @@
 -- Sixteen values, four a row, that stand for a part of a level, for the contracts of functions inside this crate. Assumes nothing.
-use Rattle.std.specs.Prelude.{List, ℕ, ◌-◌, ◌*ℤ◌, ℤ}
+use Rattle.std.specs.Prelude.{List, ℕ, ◌-◌, ℤ, ◌*ℤ◌}
 use Rattle.mathematics.specs.Definitions.Sums.{sum}
 use Rattle.pyramid.specs.Definitions.Sizes.{Level}
 use Rattle.pyramid.specs.Definitions.Edge.{reflect}

@@ -1,5 +1,5 @@
 -- What is known of a window once it was read, for the contracts of functions inside this crate. Assumes nothing.
-use Rattle.std.specs.Prelude.{◌≡◌, List, ℕ, zero, suc, ◌+◌, ◌-◌, ◌≤◌, T, ℤ}
+use Rattle.std.specs.Prelude.{◌≡◌, List, ℕ, zero, suc, ◌+◌, ◌-◌, ◌*◌, ◌/◌, ◌≤◌, T, ℤ}
 use Rattle.pyramid.specs.declared.Settings.{Settings}
 use Rattle.pyramid.specs.Definitions.Settings.{bin}
 use Rattle.pyramid.specs.Definitions.Rebuilding.{rebuilt}
@@ -10,6 +10,11 @@ use Rattle.pyramid.specs.Inner.Rows.{Small}
 use Rattle.pyramid.specs.Inner.Layers.{predicted}
 use Rattle.pixel.specs.Definitions.Windows.{columns_read, rows_read, in_window, window_nodes, nodes_read}
 use Rattle.pixel.specs.Inner.Blocks.{block}
+
+-- how far from 0 a prediction can lie, with d levels above
+unfoldable pub predicted_height : ℕ → ℕ
+predicted_height zero = 0
+predicted_height (suc d) = (196 * height d + 99) / 100
 
 module _ (s : Settings) (column row : ℕ) where
   -- the nodes in the windows below level l
@@ -26,7 +31,7 @@ module _ (s : Settings) (column row : ℕ) where
     pub record Predicted (l read : ℕ) (values : List ℤ) : Type 0 where
       pub lawful : LawfulFrom (suc l)
       pub counted : read + window_nodes s column row l + nodes_below l ≡ nodes_read s column row s.depth
-      pub small : Small ((196 * height (s.depth - suc l) + 99) / 100) values
+      pub small : Small (predicted_height (s.depth - l)) values
       pub is : (i j : ℕ) → T (in_window s column row l i j)
           → block (columns_read s column row l) (rows_read s column row l) values i j ≡ predicted s (s.depth - l) l (rebuilt s (read_levels s levels)) i j
 
