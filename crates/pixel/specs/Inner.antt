@@ -1,2 +1,4 @@
+pub mod Axes
 pub mod Blocks
+pub mod Places
 pub mod Reading

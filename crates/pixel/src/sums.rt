@@ -1,39 +1,33 @@
-// EXPAND in a window (document 02, P6): along one axis, then along the other, each the same, with one rounding at the end.
-ghost use Rattle.std.specs.Prelude.{◌≡◌, ◌+◌, ◌*◌, ◌/◌, ◌≤◌, ◌<◌, T, ℕ, pos, ◌+ℤ◌, ◌*ℤ◌, length, replicate};
+// EXPAND of a block of sixteen values (document 02, P6): along the rows, then down the columns, with one rounding at the end.
+ghost use Rattle.std.specs.Prelude.{◌≡◌, ◌<◌, cond, pos, ◌+ℤ◌, ◌*ℤ◌, get_or};
 ghost use Rattle.mathematics.specs.Definitions.Tables.{tabulate};
-ghost use Rattle.mathematics.specs.Inner.Splices.{splice};
+ghost use Rattle.quantizer.specs.Definitions.Rounding.{round_div};
 ghost use Rattle.pyramid.specs.Inner.Lawful.{Kernel};
-ghost use Rattle.pyramid.specs.Inner.Rows.{as_level, Within, Small};
+ghost use Rattle.pyramid.specs.Inner.Rows.{Within, Small};
 ghost use Rattle.pyramid.specs.Definitions.Weights.{weight};
 ghost use Rattle.pyramid.specs.Definitions.Buffers.{raster};
-ghost use Rattle.pyramid.specs.Definitions.Steps.{expand};
-ghost use Rattle.pixel.specs.Definitions.Windows.{above, inside, count};
-ghost use Rattle.pixel.specs.Inner.Blocks.{block, along};
+ghost use Rattle.pixel.specs.Inner.Blocks.{extended, line_sum, row_sums, block_sum};
 
-use crate::ranges::Range;
+use crate::axes::{Axis, Step};
 use pyramid::LawfulSettings;
 
-// The weights of a kernel.
+// The weights of a kernel, by half of the centre's, which is its number; the one beside the centre is 5, and the outer one is what the half lacks of 5.
 #[derive(Clone, Copy)]
 pub struct Weights {
     pub kernel: u16,
-    centre: i32,
-    beside: i32,
-    outer: i32,
+    half: i32,
     ghost lawful: { Kernel kernel },
-    ghost are: { (centre ≡ weight kernel 2) × (beside ≡ weight kernel 3) × (outer ≡ weight kernel 4) },
+    ghost half_is: { half ≡ pos kernel },
 }
 
 impl Weights {
     pub fn new(lawful: LawfulSettings) -> Self
         ensures { result.kernel ≡ lawful.kernel }
     {
-        let [centre, beside, outer] = lawful.weights();
+        let kernel = lawful.settings.kernel;
         Weights {
-            kernel: lawful.settings.kernel,
-            centre,
-            beside,
-            outer,
+            kernel,
+            half: i32::from(kernel),
         }
     }
 
@@ -42,7 +36,8 @@ impl Weights {
         requires { (Within 8388608 a) × (Within 8388608 b) × (Within 8388608 c) }
         ensures { result ≡ weight self.kernel 4 *ℤ (a +ℤ c) +ℤ weight self.kernel 2 *ℤ b }
     {
-        self.outer * (a + c) + self.centre * b
+        let outer = a + c;
+        self.half * (2 * b - outer) + 5 * outer
     }
 
     // At an odd one.
@@ -50,93 +45,96 @@ impl Weights {
         requires { (Within 8388608 a) × (Within 8388608 b) }
         ensures { result ≡ weight self.kernel 3 *ℤ (a +ℤ b) }
     {
-        self.beside * (a + b)
+        5 * (a + b)
     }
 }
 
-// The columns, or the rows, of a window and of the one above it, and the last column (row) of the level above.
-#[derive(Clone, Copy)]
-pub struct Axis {
-    pub here: Range,
-    pub upper: Range,
-    pub z: usize,
-    ghost climbs: { upper ≡ above z here },
-    ghost level: { (1 ≤ z) × (z ≤ 64) × (here.last ≤ 2 * z) },
-    ghost few: { (here.first ≤ here.last) × (here.last ≤ here.first + 3) },
-}
-
-// The sums at an even column (row) of four lines, from three places in each.
-fn weigh_three(
-    weights: Weights,
-    values: &[i32; 16],
-    a: usize,
-    b: usize,
-    c: usize,
-    line: &mut [i32],
-)
-    requires places { (a < 4) × (b < 4) × (c < 4) × (length line.old ≡ 4) }
-    requires small { Small 8388608 values.now }
-    ensures { line.new ≡ tabulate 4 (λ y. weight weights.kernel 4 *ℤ (as_level 4 values.now a y +ℤ as_level 4 values.now c y)
-        +ℤ weight weights.kernel 2 *ℤ as_level 4 values.now b y) }
+// One of two values.
+fn choose(first: bool, a: i32, b: i32) -> i32
+    ensures { result ≡ cond first a b }
 {
-    for (y, sum) in line.iter_mut().enumerate() {
-        *sum = weights.even(values[y * 4 + a], values[y * 4 + b], values[y * 4 + c]);
-    }
+    if first { a } else { b }
 }
 
-// At an odd one, from two.
-fn weigh_two(weights: Weights, values: &[i32; 16], a: usize, b: usize, line: &mut [i32])
-    requires places { (a < 4) × (b < 4) × (length line.old ≡ 4) }
-    requires small { Small 8388608 values.now }
-    ensures { line.new ≡ tabulate 4 (λ y. weight weights.kernel 3 *ℤ (as_level 4 values.now a y +ℤ as_level 4 values.now b y)) }
-{
-    for (y, sum) in line.iter_mut().enumerate() {
-        *sum = weights.odd(values[y * 4 + a], values[y * 4 + b]);
-    }
-}
-
-impl Axis {
-    // The sums at column (row) i of the window, of four lines.
-    fn weigh(self, i: usize, weights: Weights, values: &[i32; 16], line: &mut [i32])
-        requires places { T (inside self.here i) × (length line.old ≡ 4) }
-        requires small { Small 8388608 values.now }
-        ensures { line.new ≡ tabulate 4 (along weights.kernel self.z self.upper values.now i) }
+impl Step {
+    // Four values along the axis, with what an edge reflects to the places beyond it.
+    fn extended(self, v: [i32; 4]) -> [i32; 4]
+        requires { Small 8388608 v }
+        ensures { result ≡ tabulate 4 (extended self.above (λ n. get_or v n (pos 0))) }
     {
-        let first = self.upper.first;
-        let half = i / 2;
-        let here = half - first;
-        let next = self.z - self.z.abs_diff(half + 1) - first;
-        if i % 2 == 0 {
-            let before = half.abs_diff(1) - first;
-            weigh_three(weights, values, before, here, next, line);
+        let Axis { next, end, .. } = self.above;
+        [
+            choose(next == 0, v[2], v[0]),
+            v[1],
+            choose(end == 2, v[0], v[2]),
+            choose(end == 3, v[1], v[3]),
+        ]
+    }
+
+    // The sums at the four places of the level below.
+    fn line(self, weights: Weights, v: [i32; 4]) -> [i32; 4]
+        requires { Small 8388608 v }
+        ensures { result ≡ tabulate 4 (line_sum weights.kernel self.below (extended self.above (λ n. get_or v n (pos 0)))) }
+    {
+        let [a, b, c, d] = self.extended(v);
+        let abc = weights.even(a, b, c);
+        let bc = weights.odd(b, c);
+        let bcd = weights.even(b, c, d);
+        if self.below % 2 == 1 {
+            [abc, bc, bcd, weights.odd(c, d)]
         } else {
-            weigh_two(weights, values, here, next, line);
+            [weights.odd(a, b), abc, bc, bcd]
         }
     }
 
-    // The sums at each column (row) of the window: those of a column are a line.
-    fn weigh_all(self, weights: Weights, values: &[i32; 16], sums: &mut [i32; 16])
-        requires { Small 8388608 values.now }
-        ensures { sums.new ≡
-            splice 0 (raster 4 (count self.here) (λ y n. along weights.kernel self.z self.upper values.now (self.here.first + n) y)) sums.old }
+    // The sums of row y.
+    fn row(self, weights: Weights, values: &[i32; 16], y: usize) -> [i32; 4]
+        requires below { y < 4 }
+        requires small { Small 8388608 values.now }
+        ensures { result ≡ tabulate 4 (row_sums weights.kernel self values.now y) }
     {
-        for n in 0..self.here.count() {
-            self.weigh(self.here.first + n, weights, values, &mut sums[4 * n..4 * n + 4]);
-        }
+        let at = y * 4;
+        self.line(
+            weights,
+            [values[at], values[at + 1], values[at + 2], values[at + 3]],
+        )
+    }
+
+    // The sums of the four rows, each row's down a column.
+    fn rows(self, weights: Weights, values: &[i32; 16]) -> [i32; 16]
+        requires { Small 8388608 values.now }
+        ensures { result ≡ raster 4 4 (row_sums weights.kernel self values.now) }
+    {
+        let [a, b, c, d] = self.row(weights, values, 0);
+        let [e, f, g, h] = self.row(weights, values, 1);
+        let [i, j, k, l] = self.row(weights, values, 2);
+        let [m, n, o, p] = self.row(weights, values, 3);
+        [a, e, i, m, b, f, j, n, c, g, k, o, d, h, l, p]
     }
 }
 
-// EXPAND of the values in the window above, in the window.
-pub fn expand(columns: Axis, rows: Axis, weights: Weights, values: &[i32; 16]) -> [i32; 16]
+// EXPAND of a block, at the sixteen places of the level below.
+pub fn expand(columns: Step, rows: Step, weights: Weights, values: &[i32; 16]) -> [i32; 16]
     requires { Small 524288 values.now }
-    ensures is { (i j : ℕ) → T (inside columns.here i) → T (inside rows.here j)
-        → block columns.here rows.here result i j ≡ expand weights.kernel columns.z rows.z (block columns.upper rows.upper values.now) i j }
-    ensures small { (e : ℕ) → Small e values.now → e ≤ 524288 → Small ((196 * e + 99) / 100) result }
+    ensures { result ≡ raster 4 4 (λ m n. round_div (block_sum weights.kernel columns rows values.now m n) 100) }
 {
-    let mut sums: [i32; 16] = [0; 16];
-    columns.weigh_all(weights, values, &mut sums);
-    let mut expanded: [i32; 16] = [0; 16];
-    rows.weigh_all(weights, &sums, &mut expanded);
+    let sums = columns.rows(weights, values);
+    let mut expanded = rows.rows(weights, &sums);
     quantizer::round_row(&mut expanded, 100);
     expanded
+}
+
+// The first of them alone.
+pub fn expand_first(columns: Step, rows: Step, weights: Weights, values: &[i32; 16]) -> i32
+    requires { Small 524288 values.now }
+    ensures { result ≡ round_div (block_sum weights.kernel columns rows values.now 0 0) 100 }
+{
+    let [a, _, _, _] = columns.row(weights, values, 0);
+    let [b, _, _, _] = columns.row(weights, values, 1);
+    let [c, _, _, _] = columns.row(weights, values, 2);
+    let [d, _, _, _] = columns.row(weights, values, 3);
+    let [sum, _, _, _] = rows.line(weights, [a, b, c, d]);
+    let mut one: [i32; 1] = [sum];
+    quantizer::round_row(&mut one, 100);
+    one[0]
 }

@@ -101,6 +101,11 @@ module _ {A : Type 0} (test : A → Bool) where
 -- ---- all levels
 
 module _ (s : Settings) where
+  -- a node of a level, by its place
+  pub read-is : (buffer : List ℤ) (l i j : ℕ) → read_levels s buffer l i j ≡ get_or buffer (start s l + (j * columns_at s l + i)) (pos 0)
+  unfolding read_levels
+  read-is buffer l i j = refl
+
   module _ (f : ℕ → Level) where
     pub length-stack : (n : ℕ) → length (stack s f n) ≡ nodes_to s n
     unfolding stack nodes_to

@@ -1,16 +1,19 @@
 -- What EXPAND reads: only the nodes whose column and row it takes, edges reflected. Levels that agree there are expanded to the same.
 -- Assumes nothing.
-use mathlib.Core.Path.{◌≡◌, ap}
+use mathlib.Core.Path.{◌≡◌, ap, ◌∙◌}
 use Prim.Native.Nat.{ℕ, ◌+◌, ◌%◌, ◌<◌}
 use native.Mathlib.Decide.{ℕ_discrete}
 use native.Mathlib.Omega.{arith}
 use borrow.Author.Tests.{ne_eqb}
+use lib.Dec.{lit<}
 use lib.IntN.{ℤ, pos, ◌*ℤ◌}
 use Rattle.mathematics.proofs.Integers.{ints, all₂, all₃}
 use Rattle.mathematics.specs.Definitions.Sums.{sum}
 use Rattle.mathematics.proofs.Sums.{sum_same}
 use Rattle.quantizer.specs.Definitions.Rounding.{round_div}
+use Rattle.quantizer.proofs.Rounding.{round_four}
 use Rattle.pyramid.specs.Definitions.Sizes.{Level}
+use Rattle.pyramid.proofs.WeightedSums.{weighted_rows}
 use Rattle.pyramid.specs.Definitions.Edge.{reflect}
 use Rattle.pyramid.specs.Definitions.Steps.{weighted_sum, even_weight, halved, expand}
 
@@ -55,3 +58,11 @@ module _ (k zc zr : ℕ) (g h : Level) (i j : ℕ) where
   expand_only same =
       ap (λ (S : ℤ). round_div (pos 4 *ℤ S) 400)
       (sum_same 5 _ _ (λ n hn. sum_same 5 _ _ (λ m hm. term_same m n (same m n hm hn) (ℕ_discrete ((i + m) % 2) 0) (ℕ_discrete ((j + n) % 2) 0))))
+
+-- EXPAND along the rows, and then down the columns, over 100
+pub expand_rows : (k zc zr : ℕ) (g : Level) (i j : ℕ)
+    → expand k zc zr g i j ≡ round_div (sum 5 (λ n. even_weight k j n *ℤ sum 5 (λ m. even_weight k i m *ℤ g (reflect zc (halved i m)) (reflect zr (halved j n))))) 100
+unfolding expand
+expand_rows k zc zr g i j =
+    round_four _ 100 (lit< tt)
+    ∙ ap (λ (S : ℤ). round_div S 100) (weighted_rows (even_weight k i) (even_weight k j) (λ t. reflect zc (halved i t)) (λ t. reflect zr (halved j t)) g)

@@ -14,6 +14,7 @@ use Rattle.mathematics.specs.Definitions.Tests.{all_below}
 use Rattle.mathematics.proofs.Tests.{both_of, then, cond_elim, below_at, all_inside, inside_all}
 use Rattle.pyramid.specs.declared.Settings.{Settings}
 use Rattle.pyramid.specs.Definitions.Settings.{side_ok, depth_ok, divides, kernel_ok, black_white_ok, bin, slot_ok, size_ok, bins_ok}
+use Rattle.pyramid.specs.Definitions.Sizes.{columns_at, rows_at}
 use Rattle.pyramid.specs.Definitions.Rebuilding.{value_of}
 use Rattle.pyramid.specs.Definitions.Buffers.{read_levels}
 use Rattle.pyramid.specs.Definitions.Refusals.{limit, values_ok, pixels_ok}
@@ -25,6 +26,9 @@ use Rattle.pyramid.proofs.Rules.{both_say}
 
 pub le_decides : (m n : ℕ) → T (leb m n) ↔ (m ≤ n)
 le_decides m n = (leb→le m n, le→leb m n)
+
+pub lt_decides : (m n : ℕ) → T (ltb m n) ↔ (m < n)
+lt_decides m n = (ltb→lt m n, lt→ltb m n)
 
 pub eq_decides : (m n : ℕ) → T (eqb m n) ↔ (m ≡ n)
 eq_decides m n = (eqb→eq m n, λ e. rw e (eqb_refl n))
@@ -73,7 +77,7 @@ module _ (s : Settings) where
 
   pub black_white_decides : T (black_white_ok s.black s.white) ↔ ((s.black < s.white) × (s.white ≤ 255))
   unfolding black_white_ok
-  black_white_decides = both_say (ltb s.black s.white) (leb s.white 255) (ltb→lt s.black s.white, lt→ltb s.black s.white) (le_decides s.white 255)
+  black_white_decides = both_say (ltb s.black s.white) (leb s.white 255) (lt_decides s.black s.white) (le_decides s.white 255)
 
   pub bins_decide : T (bins_ok s) ↔ ((l : ℕ) → l < 7 → SlotRule s.depth l (bin s l))
   unfolding bins_ok
@@ -82,12 +86,17 @@ module _ (s : Settings) where
     λ r. below_all 7 (λ l. slot_ok s.depth l (bin s l)) (λ l h. (slot_decides s.depth l (bin s l)).1 (r l h)),
   )
 
-  pub values_decide : (levels : List ℤ) → T (values_ok s levels) ↔ (values_rule s levels).says
-  unfolding values_ok value_of
-  values_decide levels = (
+  pub values_within : (levels : List ℤ)
+      → T (values_ok s levels) ↔ ((l i j : ℕ) → l ≤ s.depth → i < columns_at s l → j < rows_at s l → nat_abs (value_of s l (read_levels s levels l i j)) ≤ limit)
+  unfolding values_ok
+  values_within levels = (
     λ t l i j hl hi hj. leb→le _ limit (stack-all s (λ v. leb (nat_abs v) limit) (λ l i j. value_of s l (read_levels s levels l i j)) s.depth t l i j hl hi hj),
     λ r. all-stack s (λ v. leb (nat_abs v) limit) (λ l i j. value_of s l (read_levels s levels l i j)) s.depth (λ l i j hl hi hj. le→leb _ limit (r l i j hl hi hj)),
   )
+
+  pub values_decide : (levels : List ℤ) → T (values_ok s levels) ↔ (values_rule s levels).says
+  unfolding value_of
+  values_decide levels = values_within levels
 
   pub picture_decides : (picture : ℕ) → T (eqb picture (s.rows * s.columns)) ↔ (picture ≡ s.columns * s.rows)
   picture_decides picture = rw (mul_comm s.rows s.columns) (eq_decides picture (s.columns * s.rows))

@@ -12,6 +12,10 @@ use Rattle.pyramid.specs.Inner.Lawful.{Side, Shaped}
 
 -- ---- one side
 
+pub last-is : (side l : ℕ) → last side l ≡ (side - 1) / 2 ^ l
+unfolding last
+last-is side l = refl
+
 pub last-zero : (side : ℕ) → last side 0 ≡ side - 1
 unfolding last
 last-zero side = div-one (side - 1)

@@ -39,7 +39,7 @@ weights_apart k = apart (pos k)
 
 -- two of them
 module _ {a e : ℤ} (ha : Value a) (he : Value e) where
-  pair_small : nat_abs (a +ℤ e) ≤ 16777216
+  pub pair_small : nat_abs (a +ℤ e) ≤ 16777216
   pair_small = abs_sum 8388608 8388608 a e ha.small he.small
 
   pub pair_fits : SFits w32 (held a +ℤ held e)
@@ -95,13 +95,13 @@ module _ {a b c d e : ℤ} (ha : Value a) (hb : Value b) (hc : Value c) (hd : Va
     half_is : held h ≡ pos k
     half_is = rw is (held_is (fits_by w32 6 tt most))
 
-    product_small : nat_abs (pos k *ℤ (pos 2 *ℤ c -ℤ (a +ℤ e))) ≤ 201326592
+    pub product_small : nat_abs (pos k *ℤ (pos 2 *ℤ c -ℤ (a +ℤ e))) ≤ 201326592
     product_small = abs_product 6 33554432 (pos k) (pos 2 *ℤ c -ℤ (a +ℤ e)) most difference_small
 
     pub product_fits : SFits w32 (held h *ℤ held less)
     product_fits = rw (half_is, difference_is) (fits_by w32 201326592 tt product_small)
 
-    product_is : held (held h *ℤ held less) ≡ pos k *ℤ (pos 2 *ℤ c -ℤ (a +ℤ e))
+    pub product_is : held (held h *ℤ held less) ≡ pos k *ℤ (pos 2 *ℤ c -ℤ (a +ℤ e))
     product_is = held_is product_fits ∙ rw (half_is, difference_is) refl
 
     abbrev formed : ℤ

