@@ -6,8 +6,9 @@ is at most 6; 14, 2^N divides C - 1; 15, 2^N divides R - 1.
 
 from collections.abc import Collection
 
-# The order in which coding, rebuilding, the writer and the bound look for refusals; each of them knows only some.
-ORDER = (1, 13, 14, 15, 2, 19, 3, 4, 5, 6, 7, 8, 11, 20)
+# The order in which coding, rebuilding of a picture or a pixel, the writer and the bound look for refusals; each of
+# them knows only some.
+ORDER = (1, 13, 14, 15, 2, 19, 3, 4, 5, 6, 7, 8, 21, 11, 20)
 
 # C, R, N, and which of the rules 1, 13, 14 and 15 they break: every set of these, and no other rule.
 SHAPES: tuple[tuple[int, int, int, tuple[int, ...]], ...] = (

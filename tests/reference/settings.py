@@ -22,7 +22,7 @@ FULL_GREYS = (0, 255)
 # Document 01, "Bound": the multiplier in hundredths for each k.
 BOUND_HUNDREDTHS = {3: 100, 4: 100, 5: 100, 6: 196}
 
-# Document 01, "Who can cause which refusal", and document 02, P1, P2 and P5. 0 is used here for an accepted call.
+# Document 01, "Who can cause which refusal", and document 02, P1, P2, P5 and P6. 0 is used here for an accepted call.
 ACCEPTED = 0
 BAD_SIZE = 1
 BAD_KERNEL = 2
@@ -44,6 +44,7 @@ BAD_GREATEST_GREY = 17
 BAD_PIXEL_COUNT = 18
 BAD_GREYS = 19
 PIXEL_OUTSIDE = 20
+NO_SUCH_PIXEL = 21
 
 
 class Refused(Exception):
