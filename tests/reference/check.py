@@ -14,6 +14,7 @@ import check_generations
 import check_greys
 import check_pgm
 import check_pieces
+import check_pixels
 import check_pyramid
 from tally import Tally
 
@@ -22,7 +23,7 @@ def main() -> int:
     """Run all checks and give the exit status."""
     tally = Tally()
     for part in (check_pieces, check_pyramid, check_closed_loop, check_greys, check_calls, check_generations,
-                 check_archive, check_bale, check_pgm):
+                 check_archive, check_bale, check_pgm, check_pixels):
         part.run(tally)
     print(f"{tally.passed} passed, {tally.failed} failed")
     return 1 if tally.failed else 0

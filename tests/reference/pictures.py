@@ -1,6 +1,7 @@
 """Pictures and level buffers for the self-check and the vectors."""
 
-from pyramid import VALUE_LIMIT, AxisTaps, expand_taps, reduce_taps
+from pyramid import (VALUE_LIMIT, AxisTaps, bin_index, expand_level, expand_taps, flatten, index_values, rebuild_levels,
+                     reduce_taps, split_levels)
 from seeded import Seeded
 from settings import FULL_GREYS, Settings, level_size
 
@@ -141,6 +142,24 @@ def near_indices(settings: Settings, numbers: Seeded) -> list[int]:
         low, high = (settings.black - 60, settings.white + 60) if level == settings.depth else (-60, 60)
         indices += [numbers.between(low // size, high // size) for _ in range(columns * rows)]
     return indices
+
+
+def balanced_indices(settings: Settings, numbers: Seeded) -> list[int]:
+    """Any lawful indices above level 0, and at level 0 those that bring the pixels near and between black and white.
+
+    So every index has its full part in a pixel that the clamp leaves as it is.
+    """
+    indices = random_indices(settings, numbers)
+    predicted = [[0] * settings.columns for _ in range(settings.rows)]
+    if settings.depth > 0:
+        above = rebuild_levels(index_values(indices, settings)[1:], settings.kernel)
+        predicted = expand_level(above[0], settings.kernel)
+    size = settings.bins[0]
+    largest = largest_index(size)
+    levels = split_levels(indices, settings)
+    wanted = [[numbers.between(settings.black - 20, settings.white + 20) - value for value in row] for row in predicted]
+    levels[0] = [[max(-largest, min(largest, bin_index(value, size))) for value in row] for row in wanted]
+    return flatten(levels)
 
 
 def patterned_indices(settings: Settings, pattern: str) -> list[int]:
