@@ -1,6 +1,6 @@
 """Writes test vectors; README.md gives the formats.
 
-vectors.py pyramid|levels|files|pgm|closed FILE, and the same with pyramid_greys, levels_greys, files_greys or
+vectors.py pyramid|levels|files|pgm|closed|pixels FILE, and the same with pyramid_greys, levels_greys, files_greys or
 closed_greys: those that are kept in the repository, or
 vectors.py random KIND SEED SMALL LARGE: random cases of one of these kinds, or of calls, on standard output, small and
 large.
@@ -16,12 +16,13 @@ import vectors_files_greys
 import vectors_greys
 import vectors_levels
 import vectors_pgm
+import vectors_pixels
 import vectors_pyramid
 
 KINDS = {"pyramid": vectors_pyramid.cases, "levels": vectors_levels.cases, "files": vectors_files.cases,
          "pgm": vectors_pgm.cases, "closed": vectors_closed.cases, "pyramid_greys": vectors_greys.pyramid_cases,
          "levels_greys": vectors_greys.levels_cases, "files_greys": vectors_files_greys.cases,
-         "closed_greys": vectors_greys.closed_cases}
+         "closed_greys": vectors_greys.closed_cases, "pixels": vectors_pixels.cases}
 
 
 def write_kept(kind: str, path: str) -> None:
