@@ -1,4 +1,5 @@
-"""Random cases for the host tests: settings, pictures, level buffers, files, calls and PGM files, lawful and not."""
+"""Random cases for the host tests: settings, pictures, level buffers, files, calls, PGM files and pixels, lawful
+and not."""
 
 import struct
 from collections.abc import Callable, Iterator
@@ -8,16 +9,19 @@ import vectors_closed
 import vectors_files
 import vectors_levels
 import vectors_pgm
+import vectors_pixels
 import vectors_pyramid
 from bale import Reading, file_size, write_bale
 from faulty_files import READINGS
-from pictures import (PICTURE_KINDS, largest_index, lawful_picture, near_indices, patterned_indices, picture_of,
-                      random_indices)
+from one_pixel import pixel_windows
+from pictures import (PICTURE_KINDS, balanced_indices, largest_index, lawful_picture, near_indices, patterned_indices,
+                      picture_of, random_indices)
 from pyramid import code, rebuild
 from random_files import GREYS_SHAPE_BYTES, damage, random_file, random_reading
 from random_pgm import any_pgm
 from seeded import CLOSED_BIN_FAMILIES, Seeded, random_greys, random_greys_settings, random_settings
-from settings import LARGEST_WHITE, Settings, bounds, deepest_depth, settings_refusal, shape_refusal, total_nodes
+from settings import (LARGEST_WHITE, Settings, bounds, deepest_depth, level_size, settings_refusal, shape_refusal,
+                      total_nodes)
 from vectors_pyramid import greys_settings_bytes
 
 # Largest sides of small and of large cases.
@@ -103,6 +107,42 @@ def closed_greys_case(numbers: Seeded, side: int) -> bytes:
     settings = random_greys_settings(numbers, side, CLOSED_BIN_FAMILIES)
     picture = lawful_picture(numbers.choice(PICTURE_KINDS), settings, numbers)
     return vectors_closed.case_bytes(settings, picture, greys_settings_bytes)
+
+
+# One pixel.
+
+def any_place(settings: Settings, numbers: Seeded) -> tuple[int, int]:
+    """Column and row of a pixel, in one of eight draws outside the picture."""
+    if numbers.between(0, 7) == 0:
+        return numbers.choice(vectors_pixels.outside(settings))
+    return numbers.between(0, settings.columns - 1), numbers.between(0, settings.rows - 1)
+
+
+def partly_unlawful(settings: Settings, indices: list[int], pixel: tuple[int, int], numbers: Seeded) -> list[int]:
+    """The indices with some out of range: anywhere, at an end of a window of a pixel or beyond it, or all others."""
+    way = numbers.between(0, 3)
+    if way == 0:
+        return vectors_pixels.all_unlawful(settings, pixel, numbers)
+    level = numbers.between(0, settings.depth)
+    if way == 1:
+        columns, rows = level_size(settings.columns, settings.rows, level)
+        column, row = numbers.between(0, columns - 1), numbers.between(0, rows - 1)
+        place = vectors_pixels.node_place(settings, level, column, row)
+    else:
+        windows = pixel_windows(settings, *pixel)
+        place = numbers.choice(vectors_pixels.end_places(settings, windows, level))
+    return vectors_levels.with_index(indices, place, vectors_pixels.far_index(settings, level, numbers.between(0, 3)))
+
+
+def pixels_case(numbers: Seeded, side: int) -> bytes:
+    """Up to eight pixels of a level buffer, three of a large one; in one of two some indices are out of range."""
+    settings = random_greys_settings(numbers, side)
+    indices = numbers.choice((balanced_indices, near_indices, random_indices))(settings, numbers)
+    places = [any_place(settings, numbers) for _ in range(numbers.between(1, 8 if side <= SMALL_SIDE else 3))]
+    if numbers.between(0, 1) == 0:
+        pixel = (min(places[0][0], settings.columns - 1), min(places[0][1], settings.rows - 1))
+        indices = partly_unlawful(settings, indices, pixel, numbers)
+    return vectors_pixels.case_bytes(settings, indices, places)
 
 
 # Calls: whether they are accepted, of settings and lengths that may be unlawful.
@@ -191,7 +231,7 @@ def calls_case(numbers: Seeded, side: int) -> bytes:
 CASES: dict[str, Callable[[Seeded, int], bytes]] = {
     "pyramid": pyramid_case, "levels": levels_case, "files": files_case, "calls": calls_case,
     "pgm": pgm_case, "closed": closed_case, "pyramid_greys": pyramid_greys_case, "levels_greys": levels_greys_case,
-    "files_greys": files_greys_case, "closed_greys": closed_greys_case,
+    "files_greys": files_greys_case, "closed_greys": closed_greys_case, "pixels": pixels_case,
 }
 
 
