@@ -12,7 +12,7 @@ from pixel_pieces import AXES, MOST_READ, PIXEL_PIECES
 from pyramid import code, expand_taps, rebuild
 from seeded import BIN_FAMILIES, SEED, Seeded, bins_of, fill_slots, random_greys, random_greys_settings
 from settings import (BIN_SLOTS, FULL_GREYS, KERNELS, LARGEST_DEPTH, LARGEST_SIDE, SMALLEST_SIDE, Settings,
-                      deepest_depth, is_divisible, level_size, total_nodes, with_greys)
+                      is_divisible, level_size, total_nodes, with_greys)
 from tally import Tally
 
 # Indices whose value is out of range with every bin.
