@@ -17,6 +17,10 @@ mod c {
             settings: *const Settings, levels: *const i16, levels_length: usize,
             picture: *mut u8, picture_length: usize, work: *mut i32, work_length: usize,
         ) -> u16;
+        pub fn lepsarvu_rebuild_pixel(
+            settings: *const Settings, levels: *const i16, levels_length: usize,
+            column: u16, row: u16, pixel: *mut u8, read: *mut u16,
+        ) -> u16;
         pub fn lepsarvu_level_bounds(settings: *const Settings, bounds: *mut u16) -> u16;
         pub fn lepsarvu_closed_loop_bounds(settings: *const Settings, bounds: *mut u16) -> u16;
         pub fn lepsarvu_deepest_depth(columns: u16, rows: u16, depth: *mut u16) -> u16;
@@ -88,6 +92,13 @@ pub struct Bale {
     pub note: Note,
 }
 
+/// One pixel of a picture, and how many indices were read for it.
+#[derive(Clone, Copy, Debug, PartialEq)]
+pub struct RebuiltPixel {
+    pub pixel: u8,
+    pub read: u16,
+}
+
 fn answer<T>(number: u16, value: T) -> Answer<T> {
     if number == 0 { Ok(value) } else { Err(Refused(number)) }
 }
@@ -122,6 +133,15 @@ pub fn rebuilding(s: &Settings, levels: &[i16], picture: &mut [u8], work: &mut [
         )
     };
     answer(number, ())
+}
+
+/// Answers the pixel that a rebuilding leaves at this column and row; only the indices around it are looked at.
+pub fn rebuild_pixel(settings: &Settings, levels: &[i16], column: u16, row: u16) -> Answer<RebuiltPixel> {
+    let (mut pixel, mut read) = (0, 0);
+    let number = unsafe {
+        c::lepsarvu_rebuild_pixel(settings, levels.as_ptr(), levels.len(), column, row, &mut pixel, &mut read)
+    };
+    answer(number, RebuiltPixel { pixel, read })
 }
 
 /// How far a rebuilt value of each level can lie from its average, whichever coding the file is of.
