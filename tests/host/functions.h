@@ -13,6 +13,8 @@ struct pyramid_calls {
     coding_call *coding, *closed_loop_coding;
     uint16_t (*rebuilding)(const lepsarvu_settings *settings, const int16_t *levels, size_t levels_length,
                            uint8_t *picture, size_t picture_length, int32_t *work, size_t work_length);
+    uint16_t (*rebuild_pixel)(const lepsarvu_settings *settings, const int16_t *levels, size_t levels_length,
+                              uint16_t column, uint16_t row, uint8_t *pixel, uint16_t *read);
     bounds_call *level_bounds, *closed_loop_bounds;
     uint16_t (*deepest_depth)(uint16_t columns, uint16_t rows, uint16_t *depth);
     uint16_t (*total_nodes)(const lepsarvu_settings *settings, uint16_t *nodes);

@@ -1,6 +1,6 @@
 /* Coding and rebuilding in plain C, written from document 01, P5 of document 02 and Burt and Adelson (1983) alone.
  * Nothing here is made fast: every rule is written the way the papers print it. Closed-loop coding and its bounds are
- * in plain_closed.c, what follows from settings alone in plain_settings.c. */
+ * in plain_closed.c, one pixel is in plain_pixel.c, what follows from settings alone in plain_settings.c. */
 #include "plain_steps.h"
 
 enum { SHARE = 400 };
@@ -204,6 +204,7 @@ const struct pyramid_calls plain_pyramid = {
     coding,
     plain_closed_loop_coding,
     rebuilding,
+    plain_rebuild_pixel,
     plain_level_bounds,
     plain_closed_loop_bounds,
     plain_deepest_depth,

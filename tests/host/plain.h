@@ -1,6 +1,6 @@
-/* The calls of include/lepsarvu.h in plain C, written from document 01, P1, P2 and P5 of document 02 and Burt and
- * Adelson (1983): slow, 64-bit, the 25 products of each node added up one by one, a PGM file's header taken byte by
- * byte. */
+/* The calls of include/lepsarvu.h in plain C, written from document 01, P1, P2, P4, P5 and P6 of document 02 and Burt
+ * and Adelson (1983): slow, 64-bit, the 25 products of each node added up one by one, one pixel taken from the whole
+ * picture, a PGM file's header taken byte by byte. */
 #ifndef HOST_PLAIN_H
 #define HOST_PLAIN_H
 
@@ -26,5 +26,11 @@ int plain_bin_ok(int64_t bin);
 /* Of the indices of lawful settings. */
 uint16_t plain_values_refusal(const lepsarvu_settings *s, const int16_t *levels);
 int plain_value_ok(int64_t index, int64_t bin);
+
+/* The windows of a pixel inside the picture, of lawful settings: copies the indices that lie in them, with 0 for the
+ * others, and answers how many they were; how many nodes the windows have, from their sides. */
+uint16_t plain_keep_windows(const lepsarvu_settings *s, uint16_t column, uint16_t row, const int16_t *levels,
+                            int16_t *kept);
+uint16_t plain_count_windows(const lepsarvu_settings *s, uint16_t column, uint16_t row);
 
 #endif

@@ -22,6 +22,8 @@ int64_t plain_predicted(const struct plain_level *of, const lepsarvu_settings *s
 int64_t plain_index_of(int64_t value, int64_t bin);
 
 coding_call plain_closed_loop_coding;
+uint16_t plain_rebuild_pixel(const lepsarvu_settings *s, const int16_t *levels, size_t levels_length, uint16_t column,
+                             uint16_t row, uint8_t *pixel, uint16_t *read);
 bounds_call plain_level_bounds, plain_closed_loop_bounds;
 uint16_t plain_deepest_depth(uint16_t columns, uint16_t rows, uint16_t *depth);
 uint16_t plain_total_nodes(const lepsarvu_settings *s, uint16_t *nodes);
