@@ -60,6 +60,8 @@ void lawful_case(struct seeded *draw, lepsarvu_settings s, each_job *each)
     draw_picture(draw, &s, job.held[PICTURE], pixels_of(&s));
     code_case(draw, each);
     each(REBUILDING);
+    ask_pixel(draw, draw_inside(draw, s.columns), draw_inside(draw, s.rows));
+    each(REBUILD_PIXEL);
     each(WRITE_FILE);
     shorten_file();
     each(CHECK_FILE);
@@ -109,6 +111,8 @@ void drawn_case(struct seeded *draw, uint32_t most_side, each_job *each)
     if (job.answer != 0 || once_in(draw, 2))
         draw_levels(draw, &s, (int16_t *)(void *)job.held[LEVELS], elements(LEVELS));
     each(REBUILDING);
+    ask_pixel(draw, draw_along(draw, s.columns), draw_along(draw, s.rows));
+    each(REBUILD_PIXEL);
     each(WRITE_FILE);
     lengthen(FILE_PART, draw_file(draw, most_side, job.held[FILE_PART]));
     provide(draw, LEVELS, draw_length(draw, shape_nodes(job.held[FILE_PART], elements(FILE_PART))));

@@ -135,6 +135,20 @@ size_t draw_length(struct seeded *draw, size_t right)
     }
 }
 
+uint16_t draw_inside(struct seeded *draw, uint16_t many)
+{
+    const uint32_t edge[4] = {0, 1, many - 2u, many - 1u};
+    uint32_t place = once_in(draw, 3) ? edge[below(draw, 4)] : below(draw, many);
+    return (uint16_t)(place < many ? place : 0);
+}
+
+uint16_t draw_along(struct seeded *draw, uint16_t many)
+{
+    const uint32_t outside[5] = {many, many + 1u, many + 256u, 65535, many + below(draw, 65536)};
+    uint32_t place = once_in(draw, 16) ? outside[below(draw, 5)] : draw_inside(draw, many);
+    return (uint16_t)(place < 65536 ? place : 65535);
+}
+
 void draw_picture(struct seeded *draw, const lepsarvu_settings *s, uint8_t *picture, size_t length)
 {
     uint32_t kind = below(draw, 8), base = below(draw, 256), step = below(draw, 64);

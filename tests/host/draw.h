@@ -26,6 +26,10 @@ size_t pixels_of(const lepsarvu_settings *s);
 size_t nodes_of(const lepsarvu_settings *s);
 size_t draw_length(struct seeded *draw, size_t right);
 
+/* A column of so many, or a row: often the first, the last or one beside them; and the same, outside now and then. */
+uint16_t draw_inside(struct seeded *draw, uint16_t many);
+uint16_t draw_along(struct seeded *draw, uint16_t many);
+
 /* Pixels from black to white, where these are lawful, both of them and all kinds of patterns among them. */
 void draw_picture(struct seeded *draw, const lepsarvu_settings *s, uint8_t *picture, size_t length);
 

@@ -20,12 +20,15 @@ static const size_t ELEMENT[THINGS] = {
     [READ_NOTE] = sizeof(lepsarvu_note),
     [COLUMNS] = sizeof(uint16_t),
     [ROWS] = sizeof(uint16_t),
+    [PIXEL] = 1,
+    [INDICES_READ] = sizeof(uint16_t),
 };
 
 /* Elements of what always has the same length. */
 static const size_t ALWAYS[THINGS] = {
     [SETTINGS] = 1,      [NOTE] = 1,      [NUMBER] = 1,  [SIZE] = 1, [BOUNDS] = LEPSARVU_SLOTS,
-    [READ_SETTINGS] = 1, [READ_NOTE] = 1, [COLUMNS] = 1, [ROWS] = 1,
+    [READ_SETTINGS] = 1, [READ_NOTE] = 1, [COLUMNS] = 1, [ROWS] = 1, [PIXEL] = 1,
+    [INDICES_READ] = 1,
 };
 
 size_t elements(enum thing thing)
@@ -64,6 +67,14 @@ void provide_note(lepsarvu_note note)
     provide_copy(NOTE, &note, 1);
 }
 
+void ask_pixel(struct seeded *draw, uint16_t column, uint16_t row)
+{
+    job.column = column;
+    job.row = row;
+    provide(draw, PIXEL, 1);
+    provide(draw, INDICES_READ, 1);
+}
+
 static void code(enum manner manner)
 {
     job.answer = coding_in(manner, job.pyramid)(job.at[SETTINGS], job.at[PICTURE], elements(PICTURE), job.at[LEVELS],
@@ -84,6 +95,12 @@ static void rebuilding(void)
 {
     job.answer = job.pyramid->rebuilding(job.at[SETTINGS], job.at[LEVELS], elements(LEVELS), job.at[PICTURE],
                                          elements(PICTURE), job.at[WORK], elements(WORK));
+}
+
+static void rebuild_pixel(void)
+{
+    job.answer = job.pyramid->rebuild_pixel(job.at[SETTINGS], job.at[LEVELS], elements(LEVELS), job.column, job.row,
+                                            job.at[PIXEL], job.at[INDICES_READ]);
 }
 
 static void level_bounds(void)
@@ -152,9 +169,10 @@ static void check_pgm(void)
 }
 
 void (*const JOB_CALLS[FUNCTIONS])(void) = {
-    coding,        closed_loop_coding, rebuilding, level_bounds, closed_loop_bounds,
-    deepest_depth, total_nodes,        file_size,  write_file,   read_file,
-    check_file,    pgm_size,           write_pgm,  read_pgm,     check_pgm,
+    coding,       closed_loop_coding, rebuilding,    rebuild_pixel,
+    level_bounds, closed_loop_bounds, deepest_depth, total_nodes,
+    file_size,    write_file,         read_file,     check_file,
+    pgm_size,     write_pgm,          read_pgm,      check_pgm,
 };
 
 static const struct {
@@ -163,6 +181,7 @@ static const struct {
     [CODING] = {1 << SETTINGS | 1 << PICTURE, 1 << LEVELS | 1 << WORK},
     [CLOSED_LOOP_CODING] = {1 << SETTINGS | 1 << PICTURE, 1 << LEVELS | 1 << WORK},
     [REBUILDING] = {1 << SETTINGS | 1 << LEVELS, 1 << PICTURE | 1 << WORK},
+    [REBUILD_PIXEL] = {1 << SETTINGS | 1 << LEVELS, 1 << PIXEL | 1 << INDICES_READ},
     [LEVEL_BOUNDS] = {1 << SETTINGS, 1 << BOUNDS},
     [CLOSED_LOOP_BOUNDS] = {1 << SETTINGS, 1 << BOUNDS},
     [DEEPEST_DEPTH] = {0, 1 << NUMBER},

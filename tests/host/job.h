@@ -6,9 +6,9 @@
 #include "draw.h"
 #include "tally.h"
 
-/* What the functions are lent: a struct, a buffer, a small array or a number each. NUMBER is a depth or a number of
- * nodes, FILE_PART a bale file or a PGM file, READ_SETTINGS and READ_NOTE are what was read of the former, COLUMNS and
- * ROWS of the latter. */
+/* What the functions are lent: a struct, a buffer, a small array or a number each. PIXEL is one pixel and INDICES_READ
+ * the number of indices that were read for it, NUMBER is a depth or a number of nodes, FILE_PART a bale file or a PGM
+ * file, READ_SETTINGS and READ_NOTE are what was read of the former, COLUMNS and ROWS of the latter. */
 enum thing {
     SETTINGS,
     NOTE,
@@ -23,6 +23,8 @@ enum thing {
     READ_NOTE,
     COLUMNS,
     ROWS,
+    PIXEL,
+    INDICES_READ,
     THINGS
 };
 
@@ -33,7 +35,8 @@ struct job {
     const struct pyramid_calls *pyramid; /* whose functions are called */
     const struct file_calls *file;
     const struct pgm_calls *pgm;
-    lepsarvu_settings s; /* what SETTINGS holds */
+    lepsarvu_settings s;  /* what SETTINGS holds */
+    uint16_t column, row; /* of the pixel that is asked for */
     uint16_t answer;
     size_t bytes[THINGS]; /* of each thing */
     void *at[THINGS];     /* where it lies while it is lent */
@@ -54,6 +57,9 @@ void provide_copy(enum thing thing, const void *contents, size_t many);
 void provide_settings(struct seeded *draw, lepsarvu_settings s);
 void provide_note(lepsarvu_note note);
 
+/* Asks for the pixel at a column and a row, whose answers hold anything. */
+void ask_pixel(struct seeded *draw, uint16_t column, uint16_t row);
+
 /* Makes a function's call on what lies at job.at, and leaves the answer in job.answer. */
 extern void (*const JOB_CALLS[FUNCTIONS])(void);
 
@@ -70,11 +76,11 @@ void hold_again(enum function function);
 /* What a test does with a function's job: it lays out what the function is lent, makes the call and looks. */
 typedef void each_job(enum function function);
 
-/* Right lengths: the levels that one of the two codings leaves are rebuilt and written, and the file that was written
- * is read; so is a PGM file of the rebuilt picture. */
+/* Right lengths: the levels that one of the two codings leaves are rebuilt, as a whole and for one pixel, and written,
+ * and the file that was written is read; so is a PGM file of the rebuilt picture. */
 void lawful_case(struct seeded *draw, lepsarvu_settings s, each_job *each);
 
-/* Any settings, lengths, level buffers, readings and files. */
+/* Any settings, lengths, level buffers, pixels, readings and files. */
 void drawn_case(struct seeded *draw, uint32_t most_side, each_job *each);
 
 #endif

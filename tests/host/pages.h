@@ -18,8 +18,8 @@ enum place { AT_END, AT_START, PLACES };
 
 static const char *const PLACE_NAMES[PLACES] = {"memory ends", "memory starts"};
 static const char *const THING_NAMES[THINGS] = {
-    "settings", "note",   "picture",       "levels",    "work",    "file", "number",
-    "size",     "bounds", "read settings", "read note", "columns", "rows",
+    "settings", "note",          "picture",   "levels",  "work", "file",  "number",       "size",
+    "bounds",   "read settings", "read note", "columns", "rows", "pixel", "indices read",
 };
 
 static unsigned char *room[THINGS];

@@ -7,8 +7,8 @@
 
 enum { SMALL_CASES = 5000, LARGE_CASES = 300, SMALL_SIDE = 9, LARGE_SIDE = 129, KNOWN = 3000, SLACK = 64 };
 
-/* The most that a call of a function of closed-loop coding, or of PGM files, may take. */
-enum { MOST_CLOSED_LOOP_CODING = 2432, MOST_CLOSED_LOOP_BOUNDS = 192 };
+/* The most that a call of a function of closed-loop coding, of one pixel or of PGM files may take. */
+enum { MOST_CLOSED_LOOP_CODING = 2432, MOST_CLOSED_LOOP_BOUNDS = 192, MOST_REBUILD_PIXEL = 1536 };
 enum { MOST_PGM_SIZE = 128, MOST_WRITE_PGM = 256, MOST_READ_PGM = 512, MOST_CHECK_PGM = 512 };
 
 /* The most that a call may take, and the least that the deepest one must have been seen to take: its arguments on the
@@ -21,7 +21,7 @@ static const struct {
     [WRITE_FILE] = {8 + 8, 1280},       [READ_FILE] = {8, 1280},            [CHECK_FILE] = {8, 1280},
     [PGM_SIZE] = {8, MOST_PGM_SIZE},    [WRITE_PGM] = {8 + 8, MOST_WRITE_PGM}, [READ_PGM] = {8, MOST_READ_PGM},
     [CHECK_PGM] = {8, MOST_CHECK_PGM},  [CLOSED_LOOP_CODING] = {8 + 8 + 2 * 516, MOST_CLOSED_LOOP_CODING},
-    [CLOSED_LOOP_BOUNDS] = {8, MOST_CLOSED_LOOP_BOUNDS},
+    [CLOSED_LOOP_BOUNDS] = {8, MOST_CLOSED_LOOP_BOUNDS}, [REBUILD_PIXEL] = {8 + 8, MOST_REBUILD_PIXEL},
 };
 
 static struct seeded draw;

@@ -9,6 +9,7 @@ enum function {
     CODING,
     CLOSED_LOOP_CODING,
     REBUILDING,
+    REBUILD_PIXEL,
     LEVEL_BOUNDS,
     CLOSED_LOOP_BOUNDS,
     DEEPEST_DEPTH,
@@ -24,7 +25,7 @@ enum function {
     FUNCTIONS
 };
 
-enum { ANSWERS = 21, SHOWN_FAILURES = 20 };
+enum { ANSWERS = 22, SHOWN_FAILURES = 20 };
 
 struct tally {
     uint64_t number; /* of the case at hand */
@@ -33,9 +34,10 @@ struct tally {
 };
 
 static const char *const FUNCTION_NAMES[FUNCTIONS] = {
-    "coding",        "closed_loop_coding", "rebuilding", "level_bounds", "closed_loop_bounds",
-    "deepest_depth", "total_nodes",        "file_size",  "write_file",   "read_file",
-    "check_file",    "pgm_size",           "write_pgm",  "read_pgm",     "check_pgm",
+    "coding",       "closed_loop_coding", "rebuilding",    "rebuild_pixel",
+    "level_bounds", "closed_loop_bounds", "deepest_depth", "total_nodes",
+    "file_size",    "write_file",         "read_file",     "check_file",
+    "pgm_size",     "write_pgm",          "read_pgm",      "check_pgm",
 };
 
 static inline void count(struct tally *it, enum function function, uint16_t answer, int passed)
@@ -81,6 +83,7 @@ static inline void demand_answers(struct tally *it)
         [CODING] = OF_SETTINGS | BIT(5) | BIT(6) | BIT(7) | BIT(20),
         [CLOSED_LOOP_CODING] = OF_SETTINGS | BIT(5) | BIT(6) | BIT(7) | BIT(20),
         [REBUILDING] = OF_SETTINGS | BIT(5) | BIT(6) | BIT(7) | BIT(11),
+        [REBUILD_PIXEL] = OF_SETTINGS | BIT(6) | BIT(21) | BIT(11),
         [LEVEL_BOUNDS] = OF_SETTINGS,
         [CLOSED_LOOP_BOUNDS] = OF_SETTINGS,
         [DEEPEST_DEPTH] = BIT(0) | BIT(1),
