@@ -16,6 +16,7 @@ static void compare_calls(struct run *run, const lepsarvu_settings *s)
     compare_coding(run, s, last == OPEN_LOOP ? CLOSED_LOOP : OPEN_LOOP);
     compare_coding(run, s, last);
     compare_rebuilding(run, s);
+    compare_drawn_pixel(run, s);
     compare_writing(run, s);
     compare_writing_pgm(run, s);
 }
@@ -83,6 +84,7 @@ int main(int words, char **word)
     all_shapes(&run);
     every_pgm(&run);
     every_set_pgm(&run);
+    every_pixel(&run);
     many_cases(&run, small, SMALL_SIDE);
     many_cases(&run, large, LARGE_SIDE);
     print_answers(&run.tally);

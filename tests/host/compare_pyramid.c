@@ -91,7 +91,7 @@ void compare_coding(struct run *run, const lepsarvu_settings *s, enum manner man
     keep_coded(run, &levels[1], answers[1]);
 }
 
-const int16_t *lend_levels(struct run *run, const lepsarvu_settings *s, struct lent *levels, size_t length)
+int16_t *lend_levels(struct run *run, const lepsarvu_settings *s, struct lent *levels, size_t length)
 {
     int16_t *indices = lend(levels, length * sizeof(int16_t), &run->draw);
     if (run->coded == length && !once_in(&run->draw, 3))
