@@ -13,7 +13,7 @@ enum { TIMES = 12, PIXELS = 15, NODES = 21, FILE_BYTES = 78, WAYS = 6 };
 struct seeded draw;
 struct tally tally;
 
-static const uint16_t REFUSAL[RULES] = {1, 13, 14, 15, 2, 19, 3, 4, 5, 6, 7, 8, 11, 20};
+static const uint16_t REFUSAL[RULES] = {1, 13, 14, 15, 2, 19, 3, 4, 5, 6, 7, 8, 21, 11, 20};
 
 /* Three by five: the level above has six nodes. */
 static const lepsarvu_settings LAWFUL = {3, 5, 1, 4, 16, 235, {10, 4, 0, 0, 0, 0, 0}};
@@ -23,6 +23,7 @@ static const unsigned KNOWN[FUNCTIONS] = {
     [CODING] = SETTINGS_RULES | 1 << PICTURE_5 | 1 << LEVELS_6 | 1 << WORK_7 | 1 << PIXEL_20,
     [CLOSED_LOOP_CODING] = SETTINGS_RULES | 1 << PICTURE_5 | 1 << LEVELS_6 | 1 << WORK_7 | 1 << PIXEL_20,
     [REBUILDING] = SETTINGS_RULES | 1 << PICTURE_5 | 1 << LEVELS_6 | 1 << WORK_7 | 1 << INDEX_11,
+    [REBUILD_PIXEL] = SETTINGS_RULES | 1 << LEVELS_6 | 1 << OUTSIDE_21 | 1 << INDEX_11,
     [LEVEL_BOUNDS] = SETTINGS_RULES,
     [CLOSED_LOOP_BOUNDS] = SETTINGS_RULES,
     [TOTAL_NODES] = SETTINGS_RULES,
@@ -125,6 +126,43 @@ static void provide_levels(unsigned set)
     }
 }
 
+/* A pixel of the picture, or one that is beyond its columns, its rows or both. */
+static void provide_place(unsigned set)
+{
+    static const uint16_t BEYOND[2][WAYS] = {{3, 4, 5, 256, 259, 65535}, {5, 6, 15, 256, 260, 65535}};
+    uint16_t column = (uint16_t)below(&draw, 3), row = (uint16_t)below(&draw, 5);
+    uint32_t outside = breaks(set, OUTSIDE_21) ? 1 + below(&draw, 3) : 0;
+    ask_pixel(&draw, outside & 1 ? BEYOND[0][below(&draw, WAYS)] : column,
+              outside & 2 ? BEYOND[1][below(&draw, WAYS)] : row);
+}
+
+/* Whether a pixel's windows have a node: of the first six, which are two by three, they have both columns of two or
+ * three rows, and of the others the pixel itself. Of a pixel outside, all indices count. */
+static int is_read(size_t node)
+{
+    static const size_t ROWS_ABOVE[5][2] = {{0, 1}, {0, 1}, {0, 2}, {1, 2}, {1, 2}};
+    if (job.column >= 3 || job.row >= 5)
+        return 1;
+    const size_t *rows = ROWS_ABOVE[job.row];
+    return node < 6 ? rows[0] <= node / 2 && node / 2 <= rows[1] : node - 6 == (size_t)job.row * 3 + job.column;
+}
+
+/* The same for one pixel: all indices that are read are lawful, or one of them is not, or none; the others never. */
+static void provide_read_levels(unsigned set)
+{
+    int16_t *indices = (void *)job.held[LEVELS];
+    int all = once_in(&draw, 2);
+    size_t one = below(&draw, NODES);
+    while (!is_read(one))
+        one = below(&draw, NODES);
+    provide_levels(set & ~(1u << INDEX_11));
+    for (size_t at = 0; at < elements(LEVELS); at++) {
+        int is_broken = !is_read(at) || (breaks(set, INDEX_11) && (all || at == one));
+        if (is_broken)
+            indices[at] = (int16_t)(once_in(&draw, 3) ? -32768 : indices[at] + (indices[at] > 0 ? 1 : -1));
+    }
+}
+
 void expect(enum function function, uint16_t expected)
 {
     tally.number++;
@@ -139,7 +177,11 @@ static void break_set(enum function function, unsigned set)
     provide_settings(&draw, broken(LAWFUL, set));
     provide_note(draw_broken_note(breaks(set, NOTE_4)));
     provide_picture(set);
-    provide_levels(set);
+    provide_place(set);
+    if (function == REBUILD_PIXEL)
+        provide_read_levels(set);
+    else
+        provide_levels(set);
     provide(&draw, WORK, at_least(breaks(set, WORK_7), NODES));
     provide(&draw, FILE_PART, at_least(breaks(set, FILE_8), FILE_BYTES));
     expect(function, first_of(set));

@@ -18,6 +18,7 @@ enum rule {
     LEVELS_6,
     WORK_7,
     FILE_8,
+    OUTSIDE_21,
     INDEX_11,
     PIXEL_20,
     RULES
