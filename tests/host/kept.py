@@ -24,6 +24,7 @@ HOMES = {
     "pyramid_greys": "test_vectors",
     "closed_greys": "test_vectors",
     "levels_greys": "test_vectors",
+    "pixels": "test_pixels",
     "files": "test_files",
     "files_greys": "test_files",
     "pgm": "test_pgm",

@@ -1,5 +1,5 @@
 /* Holds the library to the answers of the Python reference, on standard input:
- * vectors pyramid|closed|levels|files|pyramid_greys|closed_greys|levels_greys|files_greys|calls|pgm
+ * vectors pyramid|closed|levels|files|pyramid_greys|closed_greys|levels_greys|files_greys|pixels|calls|pgm
  * tests/reference/README.md gives the formats. */
 #include "guarded.h"
 #include "vectors.h"
@@ -119,13 +119,18 @@ static void closed_case(void)
     count(&tally, CLOSED_LOOP_BOUNDS, job.answer, passed);
 }
 
-static void levels_case(void)
+void take_levels(void)
 {
-    provide_settings(&draw, take_settings());
     provide(&draw, LEVELS, nodes_of(&job.s));
     int16_t *indices = (void *)job.held[LEVELS];
     for (size_t place = 0; place < nodes_of(&job.s); place++)
         indices[place] = (int16_t)(uint16_t)take_number(2);
+}
+
+static void levels_case(void)
+{
+    provide_settings(&draw, take_settings());
+    take_levels();
     rebuild_case(1);
 }
 
@@ -187,7 +192,8 @@ int main(int words, char **word)
     } KINDS[] = {
         {"pyramid", 0, pyramid_case}, {"pyramid_greys", 1, pyramid_case}, {"closed", 0, closed_case},
         {"closed_greys", 1, closed_case}, {"levels", 0, levels_case}, {"levels_greys", 1, levels_case},
-        {"files", 0, files_case}, {"files_greys", 1, files_case}, {"calls", 1, calls_case}, {"pgm", 0, pgm_case},
+        {"files", 0, files_case}, {"files_greys", 1, files_case}, {"pixels", 1, pixels_case}, {"calls", 1, calls_case},
+        {"pgm", 0, pgm_case},
     };
     for (size_t at = 0; words == 2 && at < sizeof KINDS / sizeof *KINDS; at++)
         if (strcmp(word[1], KINDS[at].kind) == 0) {
@@ -200,6 +206,6 @@ int main(int words, char **word)
             print_answers(&tally);
             return finish(&tally);
         }
-    fprintf(stderr, "usage: vectors pyramid|closed|levels|files, each with _greys too, calls or pgm\n");
+    fprintf(stderr, "usage: vectors pyramid|closed|levels|files, each with _greys too, pixels, calls or pgm\n");
     return 2;
 }

@@ -36,6 +36,12 @@ lepsarvu_note take_note(void);
 /* Settings and lengths that may be unlawful: the answer of every call. */
 void calls_case(void);
 
+/* Indices for all levels of the settings at hand, which become the level buffer. */
+void take_levels(void);
+
+/* A level buffer and some pixels: the answer, the pixel and the number of indices read of each. */
+void pixels_case(void);
+
 /* A PGM file: what its readers answer, and the single form of its picture. */
 void pgm_case(void);
 

@@ -3,8 +3,9 @@
 
 #include "vectors.h"
 
-/* The bytes of the case at hand, as far as they were read; numbers are little-endian. The largest case has 212,212. */
-static uint8_t held[1 << 18];
+/* The bytes of the case at hand, as far as they were read; numbers are little-endian. The largest kept case has
+ * 212,212; one of 65,535 pixels would have 634,561. */
+static uint8_t held[1 << 20];
 static size_t taken;
 
 int with_greys;
