@@ -1,13 +1,14 @@
 /* A program with no C library and no start-up but its own: the archive needs memset and memmove. It codes piece A
- * of document 01, writes its file, reads it back and rebuilds the picture, codes it closed-loop and rebuilds that, and
- * writes piece A as a PGM file and reads that back, with guard bytes around all that it lends; the exit status is the
- * step that failed, or 64 more where that step changed a guard or what it only reads. */
+ * of document 01, writes its file, reads it back and rebuilds the picture, codes it closed-loop and rebuilds that,
+ * writes piece A as a PGM file and reads that back, and rebuilds one pixel of its file, with guard bytes around all
+ * that it lends; the exit status is the step that failed, or 64 more where that step changed a guard or what it only
+ * reads. */
 #include "../../include/lepsarvu.h"
 
-enum { NODES = 13, PIXELS = 9, FILE_BYTES = 58, PGM_BYTES = 20, GUARD = 32, ROOM = 64, GUARD_BYTE = 0xA5, STEPS = 17,
+enum { NODES = 13, PIXELS = 9, FILE_BYTES = 58, PGM_BYTES = 20, GUARD = 32, ROOM = 64, GUARD_BYTE = 0xA5, STEPS = 18,
        CHANGED = 64 };
 enum thing { SETTINGS, NOTE, PICTURE, SHOWN, LEVELS, READ, WORK, FILE_PART, NUMBER, SIZE, BOUNDS, READ_SETTINGS,
-             READ_NOTE, PGM, COLUMNS, ROWS, THINGS };
+             READ_NOTE, PGM, COLUMNS, ROWS, PIXEL, INDICES_READ, THINGS };
 
 static const lepsarvu_settings PIECE_SETTINGS = {3, 3, 1, 4, 0, 255, {10, 4, 0, 0, 0, 0, 0}};
 static const lepsarvu_note PIECE_NOTE = {{LEPSARVU_PERCENTAGE, 0x40D00000}, {LEPSARVU_NOT_FITTED, 0}};
@@ -21,7 +22,7 @@ static const struct {
 
 static const size_t BYTES[THINGS] = {sizeof(lepsarvu_settings), sizeof(lepsarvu_note), PIXELS, PIXELS, 2 * NODES,
                                      2 * NODES, 4 * NODES, FILE_BYTES, 2, sizeof(size_t), 14,
-                                     sizeof(lepsarvu_settings), sizeof(lepsarvu_note), PGM_BYTES, 2, 2};
+                                     sizeof(lepsarvu_settings), sizeof(lepsarvu_note), PGM_BYTES, 2, 2, 1, 2};
 
 static struct {
     _Alignas(16) uint8_t bytes[GUARD + ROOM + GUARD];
@@ -177,13 +178,23 @@ static int pgm_step(int which)
     }
 }
 
+/* The same of the last step: piece A's centre, which takes its own index and the four above it. */
+static int pixel_step(void)
+{
+    const uint8_t *pixel = at(PIXEL);
+    return lepsarvu_rebuild_pixel(at(SETTINGS), at(READ), NODES, 1, 1, at(PIXEL), at(INDICES_READ)) == 0 &&
+           *pixel == 94 && number_at(INDICES_READ) == 5;
+}
+
 static int any_step(int which)
 {
     if (which <= 5)
         return step(which);
     if (which <= 10)
         return late_step(which);
-    return which <= 13 ? closed_step(which) : pgm_step(which);
+    if (which <= 13)
+        return closed_step(which);
+    return which <= 17 ? pgm_step(which) : pixel_step();
 }
 
 static int steps(void)
