@@ -1,8 +1,9 @@
-//! Document 01's piece A through the library from Rust: coding, rebuilding, the file, black and white of a camera, PGM
-//! files, and refusals.
+//! Document 01's piece A through the library from Rust: coding, rebuilding, one pixel, the file, black and white of a
+//! camera, PGM files, and refusals.
 
 mod calls_greys;
 mod calls_pgm;
+mod calls_pixels;
 mod calls_raw;
 mod lent;
 #[path = "../../examples/rust/lepsarvu.rs"]
@@ -106,12 +107,13 @@ fn refuse_shapes(t: &mut Tally) {
             b.code(lepsarvu::coding, 0, 0, 0).err(),
             b.code(lepsarvu::closed_loop_coding, 0, 0, 0).err(),
             b.rebuild(0).err(),
+            lepsarvu::rebuild_pixel(&s, indices.part(), 1, 1).err(),
             lepsarvu::write_file(&s, &NOTE, indices.part(), file.part_mut()).err(),
             lepsarvu::check_file(shaped.part()).err(),
             lepsarvu::read_file(shaped.part(), levels.part_mut()).err(),
         ];
         let name = format!("{columns} by {rows}, depth {depth}");
-        t.equal(&name, found, [Some(Refused(number)); 10]);
+        t.equal(&name, found, [Some(Refused(number)); 11]);
         let kept = [b.kept(), indices.kept(), file.kept(), levels.kept(), shaped.kept()];
         t.equal(&format!("{name}: unchanged"), kept, [true; 5]);
     }
@@ -279,7 +281,7 @@ fn main() {
     for part in [sizes, refuse_shapes, code_and_rebuild, refuse_buffers, write, read] {
         part(&mut t);
     }
-    for part in [calls_greys::all, calls_raw::all, calls_pgm::all] {
+    for part in [calls_greys::all, calls_pixels::all, calls_raw::all, calls_pgm::all] {
         part(&mut t);
     }
     println!("{} passed, {} failed", t.passed, t.failed);

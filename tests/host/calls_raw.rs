@@ -21,6 +21,10 @@ extern "C" {
         settings: *const Settings, levels: *const i16, levels_length: usize, picture: *mut u8, picture_length: usize,
         work: *mut i32, work_length: usize,
     ) -> u16;
+    fn lepsarvu_rebuild_pixel(
+        settings: *const Settings, levels: *const i16, levels_length: usize, column: u16, row: u16, pixel: *mut u8,
+        read: *mut u16,
+    ) -> u16;
     fn lepsarvu_level_bounds(settings: *const Settings, bounds: *mut u16) -> u16;
     fn lepsarvu_closed_loop_bounds(settings: *const Settings, bounds: *mut u16) -> u16;
     fn lepsarvu_deepest_depth(columns: u16, rows: u16, depth: *mut u16) -> u16;
@@ -50,6 +54,8 @@ struct Things {
     closed_bounds: Lent<u16>,
     read_settings: Lent<Settings>,
     read_note: Lent<Note>,
+    pixel: Lent<u8>,
+    indices_read: Lent<u16>,
 }
 
 impl Things {
@@ -67,6 +73,8 @@ impl Things {
             closed_bounds: Lent::of(&[99; 7]),
             read_settings: Lent::of(&[Settings::default()]),
             read_note: Lent::of(&[Note::default()]),
+            pixel: Lent::of(&[99]),
+            indices_read: Lent::of(&[99]),
         }
     }
 
@@ -84,6 +92,7 @@ impl Things {
             )* };
         }
         look!(settings note picture levels work file number size bounds closed_bounds read_settings read_note);
+        look!(pixel indices_read);
         names
     }
 }
@@ -122,6 +131,11 @@ fn rebuild(it: &mut Things, places: usize) -> u16 {
     unsafe { lepsarvu_rebuilding(settings, levels, NODES, it.picture.pointer(), 9, it.work.pointer(), places) }
 }
 
+fn rebuild_pixel(it: &mut Things, column: u16, row: u16) -> u16 {
+    let (settings, levels, read) = (it.settings.pointer(), it.levels.pointer(), it.indices_read.pointer());
+    unsafe { lepsarvu_rebuild_pixel(settings, levels, NODES, column, row, it.pixel.pointer(), read) }
+}
+
 fn write_file(it: &mut Things, bytes: usize) -> u16 {
     let (settings, note, levels) = (it.settings.pointer(), it.note.pointer(), it.levels.pointer());
     unsafe { lepsarvu_write_file(settings, note, levels, NODES, it.file.pointer(), bytes, it.size.pointer()) }
@@ -151,11 +165,12 @@ fn refuse_shapes(t: &mut Tally, it: &mut Things) {
             code(false, it, NODES),
             code(true, it, NODES),
             rebuild(it, NODES),
+            rebuild_pixel(it, 1, 1),
             write_file(it, FILE.len()),
             read_file(it, file.pointer(), FILE.len()),
         ];
         let name = format!("raw {columns} by {rows}, depth {depth}");
-        t.equal(&name, (alone, others, it.changed(), file.kept()), ([number; 5], [number; 5], vec![], true));
+        t.equal(&name, (alone, others, it.changed(), file.kept()), ([number; 5], [number; 6], vec![], true));
     }
     it.settings = Lent::of(&[PIECE_A]);
 }
@@ -169,6 +184,20 @@ fn code_and_rebuild(t: &mut Tally, it: &mut Things) {
         t.equal("raw rebuilding", (found, it.changed()), (answer, changed(vec!["picture", "work"])));
     }
     t.equal("raw picture and indices", (it.picture.part(), it.levels.part()), (&SHOWN[..], &INDICES[..]));
+}
+
+/// The centre of what was coded takes its own index and the four above it, and so does a corner.
+fn one_pixel(t: &mut Tally, it: &mut Things) {
+    for (column, row, answer, changed, pixel) in [
+        (3, 1, 21, vec![], 99),
+        (1, 3, 21, vec![], 99),
+        (1, 1, 0, vec!["pixel", "indices_read"], 94),
+        (2, 2, 0, vec!["pixel"], 0),
+    ] {
+        let found = rebuild_pixel(it, column, row);
+        t.equal("raw pixel", (found, it.changed(), it.pixel.part()), (answer, changed, &[pixel][..]));
+    }
+    t.equal("raw indices read", it.indices_read.part(), &[5][..]);
 }
 
 /// Closed-loop, in things of its own; what the coding leaves in the work buffer is what the rebuilding leaves there.
@@ -224,7 +253,7 @@ fn notice(t: &mut Tally) {
 pub fn all(t: &mut Tally) {
     let mut it = Things::new();
     notice(t);
-    for part in [sizes, refuse_shapes, code_and_rebuild, code_closed_and_rebuild, write, read] {
+    for part in [sizes, refuse_shapes, code_and_rebuild, one_pixel, code_closed_and_rebuild, write, read] {
         part(t, &mut it);
     }
 }
