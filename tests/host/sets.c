@@ -8,7 +8,7 @@
 
 #include "guarded.h"
 
-enum { TIMES = 12, PIXELS = 15, NODES = 21, FILE_BYTES = 78, WAYS = 6 };
+enum { TIMES = 12, PIXEL_TIMES = 2400, PIXELS = 15, NODES = 21, FILE_BYTES = 78, WAYS = 6 };
 
 struct seeded draw;
 struct tally tally;
@@ -187,12 +187,14 @@ static void break_set(enum function function, unsigned set)
     expect(function, first_of(set));
 }
 
-/* All subsets of what a function knows, the empty one last. */
+/* All subsets of what a function knows, the empty one last. Of one pixel those with lawful settings are broken in more
+ * ways, so that every index is unlawful for every pixel. */
 static void break_sets(enum function function)
 {
     unsigned known = KNOWN[function], set = known;
     for (;; set = (set - 1) & known) {
-        for (int times = 0; times < TIMES; times++)
+        int is_pixel = function == REBUILD_PIXEL && (set & SETTINGS_RULES) == 0;
+        for (int times = is_pixel ? PIXEL_TIMES : TIMES; times > 0; times--)
             break_set(function, set);
         if (set == 0)
             return;
