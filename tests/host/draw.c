@@ -144,7 +144,7 @@ uint16_t draw_inside(struct seeded *draw, uint16_t many)
 
 uint16_t draw_along(struct seeded *draw, uint16_t many)
 {
-    const uint32_t outside[5] = {many, many + 1u, many + 256u, 65535, many + below(draw, 65536)};
+    const uint32_t outside[5] = {many, many + 1u, 256 + below(draw, many), 65535, many + below(draw, 65536)};
     uint32_t place = once_in(draw, 16) ? outside[below(draw, 5)] : draw_inside(draw, many);
     return (uint16_t)(place < 65536 ? place : 65535);
 }
