@@ -1,8 +1,8 @@
 /* Cases of single pixels of a level buffer: see vectors.h. */
 #include "vectors.h"
 
-/* One pixel: what is asked, the answer, and what an accepted call leaves; what a refused one left was compared with what
- * there was before. */
+/* One pixel: what is asked, the answer, and what an accepted call leaves; what a refused one left was compared with
+ * what there was before. */
 static void pixel_record(void)
 {
     uint16_t column = (uint16_t)take_number(2), row = (uint16_t)take_number(2), expected = (uint16_t)take_number(2);
