@@ -109,8 +109,8 @@ static void compare_sides(struct job *it, const struct shapes *of)
 int main(void)
 {
     static struct job it;
-    puts("\nOne pixel at depth 6, the mean of 64 that are drawn, one out of each of 8 by 8 parts of the picture; one of");
-    puts("them again and again; and the whole picture:\n");
+    puts("\nOne pixel at depth 6: the mean of 64, drawn one out of each of 8 by 8 parts of the picture; one of them");
+    puts("again and again; and the whole picture:\n");
     print_heading("read");
     for (uint16_t kernel = 4; kernel <= 6; kernel += 2)
         compare_with_whole(&it, kernel);
