@@ -18,8 +18,8 @@ mod c {
             picture: *mut u8, picture_length: usize, work: *mut i32, work_length: usize,
         ) -> u16;
         pub fn lepsarvu_rebuild_pixel(
-            settings: *const Settings, levels: *const i16, levels_length: usize,
-            column: u16, row: u16, pixel: *mut u8, read: *mut u16,
+            settings: *const Settings, levels: *const i16, levels_length: usize, column: u16, row: u16,
+            pixel: *mut u8, read: *mut u16,
         ) -> u16;
         pub fn lepsarvu_level_bounds(settings: *const Settings, bounds: *mut u16) -> u16;
         pub fn lepsarvu_closed_loop_bounds(settings: *const Settings, bounds: *mut u16) -> u16;
@@ -92,7 +92,7 @@ pub struct Bale {
     pub note: Note,
 }
 
-/// One pixel of a picture, and how many indices were read for it.
+/// A pixel of the rebuilt picture, and how many indices were read for it.
 #[derive(Clone, Copy, Debug, PartialEq)]
 pub struct RebuiltPixel {
     pub pixel: u8,
@@ -135,11 +135,12 @@ pub fn rebuilding(s: &Settings, levels: &[i16], picture: &mut [u8], work: &mut [
     answer(number, ())
 }
 
-/// Answers the pixel that a rebuilding leaves at this column and row; only the indices around it are looked at.
-pub fn rebuild_pixel(settings: &Settings, levels: &[i16], column: u16, row: u16) -> Answer<RebuiltPixel> {
+/// The pixel that a rebuilding leaves at that column and row; only indices of a few columns and rows around it are
+/// looked at, and no picture and no work buffer is needed.
+pub fn rebuild_pixel(s: &Settings, levels: &[i16], column: u16, row: u16) -> Answer<RebuiltPixel> {
     let (mut pixel, mut read) = (0, 0);
     let number = unsafe {
-        c::lepsarvu_rebuild_pixel(settings, levels.as_ptr(), levels.len(), column, row, &mut pixel, &mut read)
+        c::lepsarvu_rebuild_pixel(s, levels.as_ptr(), levels.len(), column, row, &mut pixel, &mut read)
     };
     answer(number, RebuiltPixel { pixel, read })
 }
