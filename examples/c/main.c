@@ -1,12 +1,13 @@
 /* Codes a picture, writes its bale file to memory, reads the file back, rebuilds the picture, and prints the bound and
- * the largest difference found; then the last two of the same picture coded closed-loop. examples/README.md has the
- * commands that build and run it. */
+ * the largest difference found; then the last two of the same picture coded closed-loop, and one pixel of the file,
+ * rebuilt without the others. examples/README.md has the commands that build and run it. */
 #include <stdio.h>
 #include <stdlib.h>
 
 #include "lepsarvu.h"
 
-enum { COLUMNS = 97, ROWS = 65, PIXELS = COLUMNS * ROWS };
+/* The picture's size, and the place of the pixel that is looked at alone. */
+enum { COLUMNS = 97, ROWS = 65, PIXELS = COLUMNS * ROWS, COLUMN = 40, ROW = 30 };
 
 /* Of a camera that delivers grey from 16 to 235. Slot l of the bins is of level l; a slot above the depth holds 0. */
 static const lepsarvu_settings settings = {
@@ -69,6 +70,19 @@ static int code_closed_loop(uint16_t nodes)
     return largest_difference() > bounds[0];
 }
 
+/* No picture and no work buffer is lent. Answers whether the pixel is not the one of the picture rebuilt whole. */
+static int look_at_pixel(size_t size, uint16_t nodes, uint8_t whole)
+{
+    lepsarvu_settings read_settings;
+    lepsarvu_note read_note;
+    uint16_t read;
+    uint8_t pixel;
+    must("reading", lepsarvu_read_file(file, size, levels, nodes, &read_settings, &read_note));
+    must("one pixel", lepsarvu_rebuild_pixel(&read_settings, levels, nodes, COLUMN, ROW, &pixel, &read));
+    printf("pixel at column %d, row %d: %u, %u indices read\n", COLUMN, ROW, pixel, read);
+    return pixel != whole;
+}
+
 int main(void)
 {
     lepsarvu_settings read_settings;
@@ -85,5 +99,6 @@ int main(void)
     printf("picture %u by %u in a file of %zu bytes\n", read_settings.columns, read_settings.rows, size);
     printf("black %u, white %u\n", read_settings.black, read_settings.white);
     printf("bound %u, largest difference %d\n", bounds[0], largest_difference());
-    return largest_difference() > bounds[0] || code_closed_loop(nodes);
+    uint8_t whole = shown[ROW * COLUMNS + COLUMN];
+    return largest_difference() > bounds[0] || code_closed_loop(nodes) || look_at_pixel(size, nodes, whole);
 }

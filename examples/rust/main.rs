@@ -1,11 +1,11 @@
 //! Codes a picture, writes its bale file to memory, reads the file back, rebuilds the picture, and prints the bound and
-//! the largest difference found; then the last two of the same picture coded closed-loop. examples/README.md has the
-//! commands that build and run it.
+//! the largest difference found; then the last two of the same picture coded closed-loop, and one pixel of the file,
+//! rebuilt without the others. examples/README.md has the commands that build and run it.
 
 #[allow(dead_code)]
 mod lepsarvu;
 
-use lepsarvu::{Answer, Note, Reading, Settings};
+use lepsarvu::{Answer, Note, Reading, RebuiltPixel, Settings};
 
 /// Of a camera that delivers grey from 16 to 235. Slot l of the bins is of level l; a slot above the depth holds 0.
 const SETTINGS: Settings = Settings {
@@ -17,6 +17,9 @@ const SETTINGS: Settings = Settings {
     white: 235,
     bins: [12, 8, 6, 4, 3, 2, 0],
 };
+
+/// The column and row of the pixel that is looked at alone.
+const PLACE: (u16, u16) = (40, 30);
 
 /// Every pixel must lie between black and white.
 fn make_picture(s: &Settings) -> Vec<u8> {
@@ -53,6 +56,14 @@ fn picture_of(file: &[u8]) -> Answer<(Settings, Vec<u8>)> {
     Ok((s, picture))
 }
 
+/// One pixel of a bale file; no picture and no work buffer is lent.
+fn pixel_of(file: &[u8], column: u16, row: u16) -> Answer<RebuiltPixel> {
+    let s = lepsarvu::check_file(file)?.settings;
+    let mut levels = vec![0; lepsarvu::total_nodes(&s)?];
+    lepsarvu::read_file(file, &mut levels)?;
+    lepsarvu::rebuild_pixel(&s, &levels, column, row)
+}
+
 fn largest_difference(picture: &[u8], shown: &[u8]) -> u16 {
     picture.iter().zip(shown).map(|(a, b)| a.abs_diff(*b)).max().unwrap_or(0).into()
 }
@@ -69,6 +80,15 @@ fn code_closed_loop(s: &Settings, picture: &[u8]) -> Answer<bool> {
     Ok(largest <= bound)
 }
 
+/// Whether the pixel is the one of the picture rebuilt whole.
+fn look_at_pixel(file: &[u8], columns: u16, shown: &[u8]) -> Answer<bool> {
+    let (column, row) = PLACE;
+    let one = pixel_of(file, column, row)?;
+    println!("pixel at column {column}, row {row}: {}, {} indices read", one.pixel, one.read);
+    let at = usize::from(row) * usize::from(columns) + usize::from(column);
+    Ok(one.pixel == shown[at])
+}
+
 fn run() -> Answer<bool> {
     let picture = make_picture(&SETTINGS);
     let file = file_of(&SETTINGS, &picture)?;
@@ -78,7 +98,7 @@ fn run() -> Answer<bool> {
     println!("picture {} by {} in a file of {} bytes", read.columns, read.rows, file.len());
     println!("black {}, white {}", read.black, read.white);
     println!("bound {bound}, largest difference {largest}");
-    Ok(largest <= bound && code_closed_loop(&SETTINGS, &picture)?)
+    Ok(largest <= bound && code_closed_loop(&SETTINGS, &picture)? && look_at_pixel(&file, read.columns, &shown)?)
 }
 
 fn main() {
