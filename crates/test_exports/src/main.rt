@@ -9,6 +9,7 @@ mod kinds;
 mod lent;
 mod limits;
 mod numbers;
+mod one_pixel;
 mod parts;
 mod pgm_reading;
 mod pgm_writing;
@@ -31,6 +32,8 @@ fn main(rt: HostRuntime) -> io::Result<()> {
         ("coding and rebuilding", pictures::accepted()),
         ("limits of rebuilding", pictures::limits()),
         ("refused calls", refused::all()),
+        ("one pixel", one_pixel::accepted()),
+        ("one pixel, refused", one_pixel::refused()),
         ("small file, writing", files::written()),
         ("small file, refused settings", files::unset()),
         ("small file, reading", files::small()),

@@ -6,16 +6,19 @@ use test_support::fillers::{byte_filler, first_changed, unlawful_index, work_fil
 use test_support::reporting::Checks;
 
 // The settings, as the exported functions take them.
-const NUMBERS: [u16; 13] = [3, 5, 1, 6, 0, 255, 7, 2, 0, 0, 0, 0, 0];
+pub(crate) const NUMBERS: [u16; 13] = [3, 5, 1, 6, 0, 255, 7, 2, 0, 0, 0, 0, 0];
 
 const PICTURE: [u8; 15] = [
     0, 255, 17, 90, 3, 140, 61, 200, 38, 250, 12, 77, 129, 5, 231,
 ];
 
 // Level 1 first: 2 columns and 3 rows.
-const INDICES: [i16; 21] = [
+pub(crate) const INDICES: [i16; 21] = [
     41, 54, 59, 41, 47, 39, -10, 23, -15, -2, -14, 6, -10, 14, -5, 20, -12, 0, 5, -11, 22,
 ];
+
+// What is shown of them; the first pixel is clamped.
+pub(crate) const SHOWN: [u8; 15] = [0, 255, 16, 87, 0, 136, 63, 200, 36, 251, 9, 75, 127, 6, 229];
 
 // A picture and the indices of its levels, of which one is handed in and the other left, and the values that are left in the work buffer.
 // Kept: settings are the numbers that the exported functions take.
@@ -93,11 +96,10 @@ fn check_closed_piece(t: &mut Checks) {
     check_closed(t, coded);
 }
 
-// The first pixel is clamped.
 fn check_shown_piece(t: &mut Checks) {
     let shown = Piece {
         settings: &NUMBERS,
-        pixels: &[0, 255, 16, 87, 0, 136, 63, 200, 36, 251, 9, 75, 127, 6, 229],
+        pixels: &SHOWN,
         indices: &INDICES,
         values: &[
             82, 108, 118, 82, 94, 78, -3, 255, 16, 87, 0, 136, 63, 200, 36, 251, 9, 75, 127, 6, 229,
