@@ -63,10 +63,10 @@ fn check_pixels<R: Read>(data: &mut R, c: Case, count: u16) -> io::Result<Option
 
 // Reads a case and checks it.
 fn check_read<R: Read>(data: &mut R, settings: Settings) -> io::Result<Option<Finding>> {
-    let nodes = pyramid::total_nodes(settings).map_or(MOST_NODES + 1, |nodes| usize::from(nodes));
-    if MOST_NODES < nodes {
-        return Ok(Some(Finding::of_part(Part::Settings, 0)));
-    }
+    let nodes = match pyramid::total_nodes(settings) {
+        Ok(nodes) if usize::from(nodes) <= MOST_NODES => usize::from(nodes),
+        _ => return Ok(Some(Finding::of_part(Part::Settings, 0))),
+    };
     let mut bytes: [u8; 2 * MOST_NODES + 2] = [0; 2 * MOST_NODES + 2];
     let Some(bytes) = read_part(data, &mut bytes, 2 * nodes + 2)? else {
         return Ok(Some(cut()));

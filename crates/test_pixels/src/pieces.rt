@@ -221,6 +221,7 @@ pub(crate) fn outside_picture() -> Tally<Finding> {
             row,
         };
         t.count(check(asked, &WIDE_LEVELS, Err(Refusal::Place)));
+        t.count(check(asked, &[-32768; 21], Err(Refusal::Place)));
         t.count(check(asked, &WIDE_LEVELS[..20], Err(Refusal::LevelsLength)));
     }
     t
