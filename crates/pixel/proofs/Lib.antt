@@ -9,3 +9,6 @@ pub mod Readings
 pub mod PixelValues
 pub mod WindowsAlone
 pub mod PixelAnswers
+pub mod CallChecks
+pub mod WholePictures
+pub mod WorkedPieces

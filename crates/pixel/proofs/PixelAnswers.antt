@@ -8,7 +8,7 @@ use native.Mathlib.Omega.{arith}
 use borrow.Author.Tests.{eq-eqb, ne_eqb}
 use lib.Ieee.Bits.{is_true}
 use Rattle.mathematics.proofs.Tests.{same_test}
-use lib.Dec.{T, ltb, eqb}
+use lib.Dec.{T, ltb, eqb, eqb→eq}
 use lib.IntN.{ℤ}
 use lib.ListN.{length}
 use Rattle.pyramid.specs.declared.Settings.{Settings}
@@ -18,7 +18,7 @@ use Rattle.pyramid.specs.Definitions.Buffers.{read_levels}
 use Rattle.pyramid.specs.Definitions.Refusals.{unless, first, settings_refusal, values_ok}
 use Rattle.pyramid.proofs.Rules.{both_say}
 use Rattle.pyramid.proofs.RuleTests.{lt_decides}
-use Rattle.pyramid.proofs.Refusals.{first_skip, first-last, answers_passes, answers_fails, answers_last, leaves_new, accepted_settings}
+use Rattle.pyramid.proofs.Refusals.{first_none, first_skip, unless_none, answers_passes, answers_fails, leaves_new, accepted_settings}
 use Rattle.pixel.specs.declared.RebuiltPixel.{RebuiltPixel}
 use Rattle.pixel.specs.Definitions.Windows.{nodes_read}
 use Rattle.pixel.specs.Definitions.Pixel.{windows_alone, pixel_refusal, pixel_answer, answered}
@@ -68,3 +68,24 @@ module _ (s : Settings) (column row : ℕ) where
             let value = ap (clamp s) (pixel_same s column row in_columns in_rows (accepted_settings s settings) levels) in
             rw (leaves_new (pixel_refusal s column row levels) (clamp s (rebuilt s (read_levels s (windows_alone s column row levels)) 0 column row)) 0 none, leaves_new (pixel_refusal s column row levels) (nodes_read s column row s.depth) 0 none, value)
             (rw (← pixel, ← read) refl)
+
+-- ---- what an accepted call says
+
+pub record PixelAccepted (s : Settings) (column row : ℕ) (levels : List ℤ) : Type 0 where
+  pub settings : settings_refusal s ≡ 0
+  pub filled : length levels ≡ total s
+  pub place : (column < s.columns) × (row < s.rows)
+  pub lawful : T (values_ok s (windows_alone s column row levels))
+
+pub pixel_accepted : (s : Settings) (column row : ℕ) (levels : List ℤ) → pixel_refusal s column row levels ≡ 0 → PixelAccepted s column row levels
+unfolding pixel_refusal
+pixel_accepted s column row levels e =
+    let (settings, e₆) = first_none _ _ e in
+    let (six, e₂₁) = first_none _ _ e₆ in
+    let (place, e₁₁) = first_none _ _ e₂₁ in
+    record {
+      settings = settings;
+      filled = eqb→eq _ _ (unless_none (eqb (length levels) (total s)) 5 six);
+      place = (place_is s column row).0 (unless_none (ltb column s.columns && ltb row s.rows) 20 place);
+      lawful = unless_none (values_ok s (windows_alone s column row levels)) 10 (first_none _ _ e₁₁).0;
+    }

@@ -1,3 +1,4 @@
 pub mod Definitions
 pub mod Theorems
+pub mod Checks
 pub mod Inner

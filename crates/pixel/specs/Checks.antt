@@ -1,0 +1,5 @@
+pub mod Ranges
+pub mod Numbers
+pub mod Conditions
+pub mod Refused
+pub mod WorkedPixels
