@@ -19,6 +19,7 @@ use refusals::{Refusal, answer_number};
 
 pub mod closed;
 pub mod pictures;
+pub mod pixels;
 
 // The settings that thirteen numbers stand for.
 pub(crate) fn settings_of(numbers: &[u16; 13]) -> Settings

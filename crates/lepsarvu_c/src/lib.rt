@@ -13,6 +13,7 @@ ghost use Rattle.lepsarvu.specs.Definitions.Exports.{settings_of, settings_array
 
 pub mod closed;
 pub mod pictures;
+pub mod pixels;
 
 #[unsafe(no_mangle)]
 pub extern "C" fn lepsarvu_coding(
