@@ -1,11 +1,6 @@
 /* Times of rebuilding single pixels, the library beside plain C, and of the same pictures rebuilt whole. */
 #include "bench.h"
 
-/* The library first, plain C second. */
-static uint16_t (*const REBUILD_PIXEL[2])(const lepsarvu_settings *settings, const int16_t *levels,
-                                          size_t levels_length, uint16_t column, uint16_t row, uint8_t *pixel,
-                                          uint16_t *read) = {lepsarvu_rebuild_pixel, fast_rebuild_pixel};
-
 /* The shapes at one depth, of all sides that it divides. */
 struct shapes {
     const char *name;
@@ -18,8 +13,8 @@ static void rebuilding_pixels(struct job *it)
 {
     for (int at = 0; at < ASKED; at++) {
         struct asked_pixel *one = &it->asked[at];
-        it->answer |= REBUILD_PIXEL[it->which](&it->settings, it->levels, it->nodes, one->column, one->row,
-                                               &one->pixel, &one->read);
+        it->answer |= PYRAMIDS[it->which]->rebuild_pixel(&it->settings, it->levels, it->nodes, one->column, one->row,
+                                                         &one->pixel, &one->read);
     }
 }
 

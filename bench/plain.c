@@ -290,4 +290,6 @@ static uint16_t rebuilding(const lepsarvu_settings *s, const int16_t *levels, si
 }
 
 /* The other calls are not timed. */
-const struct pyramid_calls fast_pyramid = {coding, closed_loop_coding, rebuilding, NULL, NULL, NULL, NULL};
+const struct pyramid_calls fast_pyramid = {
+    coding, closed_loop_coding, rebuilding, fast_rebuild_pixel, NULL, NULL, NULL, NULL,
+};
