@@ -1,14 +1,13 @@
 -- What the call can answer, on which conditions, and what a refusal holds; ranges by hand. Assumes nothing.
-use mathlib.Core.Path.{◌≡◌, refl, sym, ap, ◌∙◌, subst}
+use mathlib.Core.Path.{◌≡◌, refl, sym, ◌∙◌, subst}
 use mathlib.Core.Logic.{◌↔◌}
 use mathlib.Core.Bool.{Bool, true, false, ◌&&◌}
 use mathlib.Core.List.{List, [], ◌∷◌, ◌++◌}
-use Prim.Native.Nat.{ℕ, ◌+◌, ◌*◌, ◌≤◌, ◌<◌}
+use Prim.Native.Nat.{ℕ, ◌≤◌, ◌<◌}
 use native.Mathlib.Omega.{arith}
-use lib.Dec.{T, ltb, eqb}
-use lib.IntN.{ℤ, pos, nat_abs, ◌*ℤ◌}
+use lib.Dec.{T, ltb}
+use lib.IntN.{ℤ, pos, nat_abs}
 use Rattle.pyramid.specs.declared.Settings.{Settings}
-use Rattle.pyramid.specs.Definitions.Settings.{bin}
 use Rattle.pyramid.specs.Definitions.Sizes.{last, columns_at, rows_at}
 use Rattle.pyramid.specs.Definitions.Rebuilding.{value_of}
 use Rattle.pyramid.specs.Definitions.Buffers.{read_levels}
@@ -18,11 +17,11 @@ use Rattle.pyramid.proofs.Rules.{Tested, refusals, first_join, given, answered, 
 use Rattle.pyramid.proofs.RuleTests.{lt_decides, values_within}
 use Rattle.pyramid.proofs.RebuiltValues.{value-is}
 use Rattle.pyramid.proofs.Conditions.{settings_tests, levels_test, settings_look}
-use Rattle.pixel.specs.Definitions.Windows.{Range, above, range_at, inside, in_window}
+use Rattle.pixel.specs.Definitions.Windows.{above, range_at, in_window}
 use Rattle.pixel.specs.Definitions.Pixel.{windows_alone, window_index, pixel_refusal, pixel_answer}
 use Rattle.pixel.specs.Checks.Ranges.{EachColumn, WorkedRanges}
 use Rattle.pixel.specs.Checks.Numbers.{PixelNumbers}
-use Rattle.pixel.specs.Checks.Conditions.{place_rule, windows_rule, PixelConditions}
+use Rattle.pixel.specs.Checks.Conditions.{windows_rule, PixelConditions}
 use Rattle.pixel.specs.Checks.Refused.{RefusedPixelsHoldNothing}
 use Rattle.pixel.proofs.Ranges.{inside_is}
 use Rattle.pixel.proofs.WindowsAlone.{in_index, out_index, alone_read}

@@ -1,6 +1,6 @@
 -- A line of four values: what an edge reflects to the places beyond it, and what EXPAND takes of them at the four places of the level below.
 -- Assumes nothing.
-use mathlib.Core.Path.{◌≡◌, refl, ap, ◌∙◌}
+use mathlib.Core.Path.{◌≡◌, refl, ap}
 use mathlib.Core.Bool.{Bool, true, false, cond, ◌&&◌}
 use mathlib.Core.List.{List, [], ◌∷◌}
 use Prim.Native.Nat.{ℕ, ◌+◌, ◌-◌, ◌*◌, ◌/◌, ◌%◌, ◌≤◌, ◌<◌}
@@ -8,7 +8,7 @@ use native.Mathlib.Nat.{le_trans, mul-le-mul_right, le_refl}
 use native.Mathlib.Omega.{arith}
 use borrow.Author.Tests.{ne_eqb}
 use lib.Dec.{eqb}
-use lib.IntN.{ℤ, pos, nat_abs, ◌*ℤ◌}
+use lib.IntN.{ℤ, pos, ◌*ℤ◌}
 use lib.ListN.{get_or}
 use mir.Syntax.{w32}
 use mir.Val.{SFits}
@@ -16,13 +16,12 @@ use Rattle.mathematics.specs.Definitions.Sums.{sum}
 use Rattle.mathematics.specs.Definitions.Tables.{tabulate}
 use Rattle.mathematics.proofs.Sums.{sum_same}
 use Rattle.mathematics.proofs.Held.{held, held_is}
-use Rattle.mathematics.proofs.Tables.{get_or-tabulate}
 use Rattle.pyramid.specs.Definitions.Steps.{even_weight}
 use Rattle.pyramid.specs.Inner.Rows.{Within, Small}
 use Rattle.pyramid.specs.Inner.Lawful.{Kernel}
 use Rattle.pyramid.proofs.Weights.{even_parity, even_size, gain_most}
 use Rattle.pyramid.proofs.WeightedSums.{taps_small}
-use Rattle.pyramid.proofs.TapSums.{Value, within_fits}
+use Rattle.pyramid.proofs.TapSums.{within_fits}
 use Rattle.pyramid.proofs.ExpandTaps.{three, two, three_passed, two_passed, even_taps, odd_taps}
 use Rattle.pixel.specs.declared.axes.Axis.{Axis}
 use Rattle.pixel.specs.Inner.Blocks.{extended, line_sum}
@@ -99,18 +98,15 @@ module _ (k next : ℕ) (X : ℕ → ℤ) where
     even_3 = rw e (at_even k 4 (λ t. X ((6 - t) / 2)) refl)
 
   -- of four values as they are passed on, with what `even` and `odd` return, stored
-  module _ {l : List ℤ} (is : l ≡ tabulate 4 X) (small : Small 8388608 l) where
+  module _ (small : (n : ℕ) → Within 8388608 (X n)) where
     abbrev given : ℕ → ℤ
-    given n = held (get_or l n (pos 0))
+    given n = held (X n)
 
-    read : (n : ℕ) → n < 4 → get_or l n (pos 0) ≡ X n
-    read n h = rw is (get_or-tabulate 4 X (pos 0) n h)
+    three_read : (m n o : ℕ) → three k (given m) (given n) (given o) ≡ three k (X m) (X n) (X o)
+    three_read m n o = three_passed k (small m) (small n) (small o)
 
-    three_read : (m n o : ℕ) → m < 4 → n < 4 → o < 4 → three k (given m) (given n) (given o) ≡ three k (X m) (X n) (X o)
-    three_read m n o hm hn ho = three_passed k (small m) (small n) (small o) ∙ rw (read m hm, read n hn, read o ho)
-
-    two_read : (m n : ℕ) → m < 4 → n < 4 → two k (given m) (given n) ≡ two k (X m) (X n)
-    two_read m n hm hn = two_passed k (small m) (small n) ∙ rw (read m hm, read n hn)
+    two_read : (m n : ℕ) → two k (given m) (given n) ≡ two k (X m) (X n)
+    two_read m n = two_passed k (small m) (small n)
 
     module _ {p q r s : ℤ} (fp : SFits w32 p) (fq : SFits w32 q) (fr : SFits w32 r) (fs : SFits w32 s) where
       pub odd_line : next % 2 ≡ 1 → p ≡ three k (given 0) (given 1) (given 2) → q ≡ two k (given 1) (given 2) → r ≡ three k (given 1) (given 2) (given 3)
@@ -130,10 +126,10 @@ module _ (k next : ℕ) (X : ℕ → ℤ) where
             odd_1 e,
             even_2 e,
             odd_3 e,
-            three_read 0 1 2 (omega arith) (omega arith) (omega arith),
-            two_read 1 2 (omega arith) (omega arith),
-            three_read 1 2 3 (omega arith) (omega arith) (omega arith),
-            two_read 2 3 (omega arith) (omega arith),
+            three_read 0 1 2,
+            two_read 1 2,
+            three_read 1 2 3,
+            two_read 2 3,
           ) refl
 
       pub even_line : next % 2 ≡ 0 → p ≡ two k (given 0) (given 1) → q ≡ three k (given 0) (given 1) (given 2) → r ≡ two k (given 1) (given 2)
@@ -153,22 +149,22 @@ module _ (k next : ℕ) (X : ℕ → ℤ) where
             even_1 e,
             odd_2 e,
             even_3 e,
-            two_read 0 1 (omega arith) (omega arith),
-            three_read 0 1 2 (omega arith) (omega arith) (omega arith),
-            two_read 1 2 (omega arith) (omega arith),
-            three_read 1 2 3 (omega arith) (omega arith) (omega arith),
+            two_read 0 1,
+            three_read 0 1 2,
+            two_read 1 2,
+            three_read 1 2 3,
           ) refl
 
 -- ---- only the four values of a line are taken
 
 module _ (f g : ℕ → ℤ) (same : (n : ℕ) → n < 4 → f n ≡ g n) where
-  extended-same : (a : Axis) (n : ℕ) → n < 4 → extended a f n ≡ extended a g n
+  pub extended-same : (a : Axis) (n : ℕ) → n < 4 → extended a f n ≡ extended a g n
   unfolding extended
   extended-same a n h = rw (same (n - 2) (omega arith), same 2 (omega arith), same n h) refl
 
-  pub line-same : (k next : ℕ) (a : Axis) (m : ℕ) → m < 4 → line_sum k next (extended a f) m ≡ line_sum k next (extended a g) m
+  pub line-same : (k next m : ℕ) → m < 4 → line_sum k next f m ≡ line_sum k next g m
   unfolding line_sum
-  line-same k next a m h = sum_same 5 _ _ (λ t ht. ap (λ (x : ℤ). even_weight k (next % 2 + m + 1) t *ℤ x) (extended-same a ((next % 2 + m + 3 - t) / 2) (omega arith)))
+  line-same k next m h = sum_same 5 _ _ (λ t ht. ap (λ (x : ℤ). even_weight k (next % 2 + m + 1) t *ℤ x) (same ((next % 2 + m + 3 - t) / 2) (omega arith)))
 
 -- ---- no farther from 0 than 14 times what is summed, for a lawful kernel
 

@@ -1,26 +1,24 @@
 -- The pixel, once the windows above it were read: its place, its value, and what is then known. Assumes nothing.
-use mathlib.Core.Path.{◌≡◌, refl, sym, ap, ◌∙◌, subst}
+use mathlib.Core.Path.{◌≡◌, refl, sym, subst}
 use mathlib.Core.List.{List}
-use Prim.Native.Nat.{ℕ, suc, ◌+◌, ◌-◌, ◌*◌, ◌≤◌, ◌<◌}
+use Prim.Native.Nat.{ℕ, ◌+◌, ◌*◌, ◌≤◌, ◌<◌}
 use native.Mathlib.Decide.{ℕ_discrete}
 use native.Mathlib.Omega.{arith}
 use lib.Dec.{T}
-use lib.IntN.{ℤ, pos, nat_abs, ◌+ℤ◌, ◌*ℤ◌}
+use lib.IntN.{ℤ, pos, nat_abs}
 use lib.ListN.{length, get_or}
 use Rattle.pyramid.specs.declared.Settings.{Settings}
-use Rattle.pyramid.specs.Definitions.Settings.{bin}
-use Rattle.pyramid.specs.Definitions.Sizes.{last, columns_at, rows_at, nodes_at, total}
-use Rattle.pyramid.specs.Definitions.Rebuilding.{value_of, rebuilt}
+use Rattle.pyramid.specs.Definitions.Sizes.{columns_at, rows_at, nodes_at, total}
+use Rattle.pyramid.specs.Definitions.Rebuilding.{value_of}
 use Rattle.pyramid.specs.Definitions.Buffers.{start, read_levels}
 use Rattle.pyramid.specs.Definitions.Refusals.{limit}
 use Rattle.pyramid.proofs.Sizes.{count_zero}
 use Rattle.pyramid.proofs.Buffers.{inside, read-is}
 use Rattle.pyramid.proofs.LevelParts.{start_bottom}
-use Rattle.pyramid.proofs.RebuiltValues.{value-is}
 use Rattle.pixel.specs.Definitions.Windows.{range_at, in_window, nodes_read}
-use Rattle.pixel.specs.Inner.Reading.{LawfulFrom, Above, PixelPredicted}
-use Rattle.pixel.proofs.Ranges.{inside_is, few_nodes, nodes_most}
-use Rattle.pixel.proofs.Predictions.{held_both, pixel_held}
+use Rattle.pixel.specs.Inner.Reading.{LawfulFrom, Above}
+use Rattle.pixel.proofs.Ranges.{inside_is, few_nodes}
+use Rattle.pixel.proofs.Predictions.{held_both}
 
 -- the only node of a window at level 0
 at_pixel : (side p i : ℕ) → (range_at side p 0).first ≤ i → i ≤ (range_at side p 0).last → i ≡ p

@@ -8,7 +8,6 @@ use lib.Dec.{T}
 use lib.IntN.{ℤ, pos, ◌+ℤ◌, ◌*ℤ◌, +ℤ_idr}
 use lib.ListN.{get_or, replicate}
 use Rattle.mathematics.specs.Definitions.Sums.{sum}
-use Rattle.mathematics.proofs.Sums.{sum_same}
 use Rattle.mathematics.proofs.Tests.{both, both_of}
 use Rattle.mathematics.proofs.Each.{each_replicate}
 use Rattle.quantizer.specs.Definitions.Rounding.{round_div}
@@ -21,7 +20,7 @@ use Rattle.pyramid.specs.Definitions.Rebuilding.{value_of, rebuilt}
 use Rattle.pyramid.specs.Definitions.Buffers.{raster, read_levels}
 use Rattle.pyramid.specs.Inner.Lawful.{Lawful}
 use Rattle.pyramid.specs.Inner.Ranges.{height}
-use Rattle.pyramid.specs.Inner.Rows.{as_level, Within, Small}
+use Rattle.pyramid.specs.Inner.Rows.{as_level}
 use Rattle.pyramid.proofs.Ranges.{height_room}
 use Rattle.pyramid.proofs.Buffers.{raster_at}
 use Rattle.pyramid.proofs.SmallBuffers.{small-raster}
@@ -30,11 +29,11 @@ use Rattle.pyramid.proofs.RebuiltValues.{rebuilt_top, rebuilt_below}
 use Rattle.pixel.specs.declared.axes.Step.{Step}
 use Rattle.pixel.specs.Definitions.Windows.{inside, range_at, columns_read, rows_read, in_window}
 use Rattle.pixel.specs.Inner.Axes.{StepOf}
-use Rattle.pixel.specs.Inner.Blocks.{extended, line_sum, row_sums, block_sum}
+use Rattle.pixel.specs.Inner.Blocks.{row_sums, block_sum}
 use Rattle.pixel.specs.Inner.Reading.{predicted_height, entry, Above, Predicted, PixelPredicted}
-use Rattle.pixel.proofs.Ranges.{inside_is, first_is, last_near}
+use Rattle.pixel.proofs.Ranges.{inside_is, last_near}
 use Rattle.pixel.proofs.Blocks.{block_within, rounded_within}
-use Rattle.pixel.proofs.StepsDown.{line_is, column_held}
+use Rattle.pixel.proofs.StepsDown.{line_is}
 
 -- ---- a node of a window, along each axis
 

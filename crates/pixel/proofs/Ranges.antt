@@ -15,7 +15,7 @@ use Rattle.pyramid.specs.Inner.Lawful.{Side}
 use Rattle.pyramid.proofs.Rules.{both_say}
 use Rattle.pyramid.proofs.RuleTests.{le_decides}
 use Rattle.pyramid.proofs.Sizes.{last-zero, last-suc, last_even}
-use Rattle.pixel.specs.Definitions.Windows.{Range, above, range_at, inside, count, columns_read, rows_read, window_nodes, nodes_read}
+use Rattle.pixel.specs.Definitions.Windows.{Range, above, range_at, inside, count, window_nodes, nodes_read}
 use Rattle.pixel.specs.Theorems.Windows.{EveryNodeRead, FewNodes}
 
 -- ---- what is in a range

@@ -3,7 +3,7 @@ use mathlib.Core.Path.{◌≡◌, refl, sym, ap, ◌∙◌, subst}
 use mathlib.Core.Bool.{Bool, true, false}
 use mathlib.Core.List.{List}
 use Prim.Native.Nat.{ℕ, zero, suc, ◌+◌, ◌-◌, ◌*◌, ◌/◌, ◌^◌, ◌≤◌, ◌<◌}
-use native.Mathlib.Decide.{dec_lt, ℕ_discrete}
+use native.Mathlib.Decide.{ℕ_discrete}
 use native.Mathlib.Nat.{zero-add}
 use native.Mathlib.Omega.{arith}
 use lib.Dec.{T, leb, leb→le, le→leb}
@@ -18,22 +18,21 @@ use Rattle.mathematics.proofs.Tables.{length-tabulate, get_or-tabulate}
 use Rattle.pyramid.specs.declared.Settings.{Settings}
 use Rattle.pyramid.specs.Definitions.Settings.{bin}
 use Rattle.pyramid.specs.Definitions.Sizes.{Level, last, columns_at, rows_at, nodes_at, total}
-use Rattle.pyramid.specs.Definitions.Rebuilding.{value_of, rebuilt}
+use Rattle.pyramid.specs.Definitions.Rebuilding.{value_of}
 use Rattle.pyramid.specs.Definitions.Buffers.{raster, start, read_levels}
 use Rattle.pyramid.specs.Definitions.Refusals.{limit}
-use Rattle.pyramid.specs.Inner.Lawful.{Lawful}
 use Rattle.pyramid.specs.Inner.Ranges.{height}
-use Rattle.pyramid.specs.Inner.Rows.{as_level, Within, Small}
+use Rattle.pyramid.specs.Inner.Rows.{as_level, Small}
 use Rattle.pyramid.proofs.Buffers.{raster_at, raster-all, all-raster, all_at}
 use Rattle.pyramid.proofs.LevelParts.{level_there, level_inside, start_top, start-next}
 use Rattle.pyramid.proofs.SmallBuffers.{small-tabulate}
 use Rattle.pyramid.proofs.RebuiltValues.{value-is}
 use Rattle.pixel.specs.declared.axes.Axis.{Axis}
-use Rattle.pixel.specs.Definitions.Windows.{range_at, inside, count, columns_read, rows_read, in_window, window_nodes, nodes_read}
+use Rattle.pixel.specs.Definitions.Windows.{range_at, inside, in_window, window_nodes, nodes_read}
 use Rattle.pixel.specs.Inner.Axes.{AxisOf}
 use Rattle.pixel.specs.Inner.Places.{holds, places, placed, block_of}
 use Rattle.pixel.specs.Inner.Reading.{predicted_height, entry, LawfulFrom, Above, Predicted}
-use Rattle.pixel.proofs.Ranges.{inside_is, first_is, range_most}
+use Rattle.pixel.proofs.Ranges.{inside_is, range_most}
 use Rattle.pixel.proofs.PlacesHeld.{placed_there, placed_not, column_there, place_of, place_back, column_of, places_are}
 use Rattle.pixel.proofs.Predictions.{held_both, both_held, place_held}
 

@@ -1,12 +1,11 @@
 -- A step down from a window to the one below it, along one axis and along both: what the sums of a block are, in columns and rows of the levels.
 -- Assumes nothing.
-use mathlib.Core.Path.{◌≡◌, refl, sym, ap, ◌∙◌}
-use mathlib.Core.Bool.{Bool, true, false, cond, ◌&&◌}
-use Prim.Native.Nat.{ℕ, zero, suc, ◌+◌, ◌-◌, ◌*◌, ◌/◌, ◌%◌, ◌^◌, ◌≤◌, ◌<◌, min}
+use mathlib.Core.Path.{◌≡◌, refl, ap, ◌∙◌}
+use Prim.Native.Nat.{ℕ, zero, suc, ◌+◌, ◌-◌, ◌*◌, ◌/◌, ◌%◌, ◌^◌, ◌≤◌, ◌<◌}
 use native.Mathlib.Decide.{dec_lt}
 use native.Mathlib.Omega.{arith}
 use borrow.Author.Tests.{eq-eqb, ne_eqb}
-use lib.Dec.{T, eqb}
+use lib.Dec.{T}
 use lib.IntN.{ℤ, ◌*ℤ◌}
 use Rattle.mathematics.specs.Definitions.Sums.{sum}
 use Rattle.pyramid.specs.Definitions.Sizes.{last}
@@ -19,10 +18,10 @@ use Rattle.pyramid.proofs.Weights.{even_parity}
 use Rattle.pyramid.proofs.NodesRead.{taps_same}
 use Rattle.pixel.specs.declared.axes.Axis.{Axis}
 use Rattle.pixel.specs.declared.axes.Step.{Step}
-use Rattle.pixel.specs.Definitions.Windows.{Range, above, range_at, inside}
+use Rattle.pixel.specs.Definitions.Windows.{range_at, inside}
 use Rattle.pixel.specs.Inner.Axes.{StepOf}
 use Rattle.pixel.specs.Inner.Blocks.{extended, line_sum}
-use Rattle.pixel.proofs.Ranges.{inside_is, every_node_read, range_most, first_is, halve, above_last, last_near, next_most}
+use Rattle.pixel.proofs.Ranges.{inside_is, every_node_read, range_most, first_is, halve, above_last}
 
 -- ---- a place that EXPAND reads, by the column that it reflects to
 

@@ -3,25 +3,24 @@ use mathlib.Core.Path.{◌≡◌, refl, sym, ap, ◌∙◌, subst}
 use mathlib.Core.Bool.{Bool, true, false}
 use mathlib.Core.List.{List}
 use Prim.Native.Nat.{ℕ, ◌+◌, ◌*◌, ◌≤◌, ◌<◌}
-use native.Mathlib.Omega.{arith}
 use lib.Dec.{T}
-use lib.IntN.{ℤ, pos}
+use lib.IntN.{ℤ}
 use lib.ListN.{length, get_or}
 use Rattle.pyramid.specs.declared.Settings.{Settings}
 use Rattle.pyramid.specs.Definitions.Sizes.{columns_at, rows_at, total}
 use Rattle.pyramid.specs.Definitions.Rebuilding.{rebuilt, clamp}
-use Rattle.pyramid.specs.Definitions.Buffers.{raster, all_levels, read_levels}
+use Rattle.pyramid.specs.Definitions.Buffers.{raster, read_levels}
 use Rattle.pyramid.specs.Definitions.Refusals.{settings_refusal, values_ok, lent_refusal, rebuilding_refusal}
-use Rattle.pyramid.specs.Definitions.Calls.{leaves, rebuilding}
+use Rattle.pyramid.specs.Definitions.Calls.{rebuilding}
 use Rattle.pyramid.specs.Inner.Accepted.{Accepted}
 use Rattle.pyramid.proofs.Buffers.{raster_at, length-all, stack_same}
 use Rattle.pyramid.proofs.RuleTests.{values_within}
 use Rattle.pyramid.proofs.Refusals.{first_none, accepted_rebuilding, rebuilding_lengths, buffers_accepted, leaves_new}
-use Rattle.pixel.specs.Definitions.Windows.{in_window, nodes_read}
+use Rattle.pixel.specs.Definitions.Windows.{in_window}
 use Rattle.pixel.specs.Definitions.Pixel.{window_index, windows_alone, pixel_refusal, pixel_answer}
 use Rattle.pixel.specs.Inner.Reading.{LawfulFrom}
 use Rattle.pixel.specs.Theorems.FullRebuilding.{FullRebuilding, WindowsAlone, NothingOutside}
-use Rattle.pixel.proofs.WindowsAlone.{in_index, out_index, alone_lawful, node_inside, pixel_same}
+use Rattle.pixel.proofs.WindowsAlone.{in_index, out_index, node_inside, pixel_same}
 use Rattle.pixel.proofs.PixelAnswers.{accepted, PixelAccepted, pixel_accepted}
 
 -- a pixel of the full rebuilding, where it is accepted

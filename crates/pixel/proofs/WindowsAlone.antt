@@ -2,22 +2,21 @@
 -- Assumes nothing.
 use mathlib.Core.Path.{◌≡◌, refl, sym, ap, ◌∙◌, subst}
 use mathlib.Core.Logic.{◌↔◌}
-use mathlib.Core.Bool.{Bool, true, false, cond}
+use mathlib.Core.Bool.{Bool, true, false}
 use mathlib.Core.List.{List, [], append-nil}
-use Prim.Native.Nat.{ℕ, zero, suc, ◌+◌, ◌-◌, ◌≤◌, ◌<◌}
+use Prim.Native.Nat.{ℕ, zero, suc, ◌+◌, ◌≤◌, ◌<◌}
 use native.Mathlib.Omega.{arith}
 use lib.Ieee.Bits.{is_true}
 use lib.Dec.{T}
-use lib.IntN.{ℤ, pos, nat_abs, ◌+ℤ◌}
-use lib.ListN.{length}
+use lib.IntN.{ℤ, pos, nat_abs}
 use Rattle.pyramid.specs.declared.Settings.{Settings}
 use Rattle.pyramid.specs.Definitions.Sizes.{Level, last, columns_at, rows_at}
 use Rattle.pyramid.specs.Definitions.Pyramid.{expanded}
 use Rattle.pyramid.specs.Definitions.Rebuilding.{value_of, rebuilt}
-use Rattle.pyramid.specs.Definitions.Buffers.{all_levels, read_levels}
+use Rattle.pyramid.specs.Definitions.Buffers.{read_levels}
 use Rattle.pyramid.specs.Definitions.Refusals.{limit, values_ok}
 use Rattle.pyramid.specs.Inner.Lawful.{Lawful}
-use Rattle.pyramid.proofs.Buffers.{read_stack, stack_same}
+use Rattle.pyramid.proofs.Buffers.{read_stack}
 use Rattle.pyramid.proofs.RuleTests.{values_within}
 use Rattle.pyramid.proofs.NodesRead.{expand_only}
 use Rattle.pyramid.proofs.RebuiltValues.{value-is, rebuilt_top, rebuilt_below}

@@ -1,6 +1,6 @@
 -- Pixels by hand: each test of a rule computes, and so does each value. Assumes nothing.
 use mathlib.Core.Path.{◌≡◌, refl}
-use lib.IntN.{ℤ, pos, negsuc}
+use lib.IntN.{pos}
 use Rattle.mathematics.specs.Definitions.Sums.{sum}
 use Rattle.mathematics.specs.Definitions.Tests.{all_below, all}
 use Rattle.mathematics.specs.Definitions.Tables.{tabulate}

@@ -23,7 +23,7 @@ impl Axis {
         requires { m < 4 }
         ensures { result ≡ holds self m }
     {
-        m < self.end && 0 < self.next + m
+        (m < self.end) & (0 < self.next + m)
     }
 
     // The value of the index that stands at a place, of a row of a level; 0 where it is not the window's.
@@ -56,15 +56,15 @@ impl Axis {
 }
 
 // Whether all values lie within 4,096 of 0.
-// Kept: no value ends the loop, so that the compiler looks at four at a time.
 pub fn values_ok(values: &[i32; 16]) -> bool
     ensures { result ≡ all (λ v. leb (nat_abs v) limit) values.now }
 {
-    let mut ok = true;
     for &value in values {
-        ok = ok & (value.unsigned_abs() <= 4096);
+        if 4096 < value.unsigned_abs() {
+            return false;
+        }
     }
-    ok
+    true
 }
 
 // Values, and what is predicted for them, in the place of that.

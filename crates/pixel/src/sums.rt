@@ -3,10 +3,10 @@ ghost use Rattle.std.specs.Prelude.{◌≡◌, ◌<◌, cond, pos, ◌+ℤ◌, �
 ghost use Rattle.mathematics.specs.Definitions.Tables.{tabulate};
 ghost use Rattle.quantizer.specs.Definitions.Rounding.{round_div};
 ghost use Rattle.pyramid.specs.Inner.Lawful.{Kernel};
-ghost use Rattle.pyramid.specs.Inner.Rows.{Within, Small};
+ghost use Rattle.pyramid.specs.Inner.Rows.{as_level, Within, Small};
 ghost use Rattle.pyramid.specs.Definitions.Weights.{weight};
 ghost use Rattle.pyramid.specs.Definitions.Buffers.{raster};
-ghost use Rattle.pixel.specs.Inner.Blocks.{extended, line_sum, row_sums, block_sum};
+ghost use Rattle.pixel.specs.Inner.Blocks.{extended, extended_rows, line_sum, row_sums, block_sum};
 
 use crate::axes::{Axis, Step};
 use pyramid::LawfulSettings;
@@ -71,12 +71,25 @@ impl Step {
         ]
     }
 
-    // The sums at the four places of the level below.
+    // The rows of a block, each with what an edge reflects to the places beyond it.
+    fn extended_rows(self, values: &[i32; 16]) -> [i32; 16]
+        requires { Small 8388608 values.now }
+        ensures { result ≡ raster 4 4 (extended_rows self.above values.now) }
+    {
+        let v = values;
+        let [a, b, c, d] = self.extended([v[0], v[1], v[2], v[3]]);
+        let [e, f, g, h] = self.extended([v[4], v[5], v[6], v[7]]);
+        let [i, j, k, l] = self.extended([v[8], v[9], v[10], v[11]]);
+        let [m, n, o, p] = self.extended([v[12], v[13], v[14], v[15]]);
+        [a, b, c, d, e, f, g, h, i, j, k, l, m, n, o, p]
+    }
+
+    // The sums at the four places of the level below, of a line with what is beyond an edge.
     fn line(self, weights: Weights, v: [i32; 4]) -> [i32; 4]
         requires { Small 8388608 v }
-        ensures { result ≡ tabulate 4 (line_sum weights.kernel self.below (extended self.above (λ n. get_or v n (pos 0)))) }
+        ensures { result ≡ tabulate 4 (line_sum weights.kernel self.below (λ n. get_or v n (pos 0))) }
     {
-        let [a, b, c, d] = self.extended(v);
+        let [a, b, c, d] = v;
         let abc = weights.even(a, b, c);
         let bc = weights.odd(b, c);
         let bcd = weights.even(b, c, d);
@@ -91,7 +104,7 @@ impl Step {
     fn row(self, weights: Weights, values: &[i32; 16], y: usize) -> [i32; 4]
         requires below { y < 4 }
         requires small { Small 8388608 values.now }
-        ensures { result ≡ tabulate 4 (row_sums weights.kernel self values.now y) }
+        ensures { result ≡ tabulate 4 (line_sum weights.kernel self.below (λ x. as_level 4 values.now x y)) }
     {
         let at = y * 4;
         self.line(
@@ -101,14 +114,16 @@ impl Step {
     }
 
     // The sums of the four rows, each row's down a column.
+    #[inline(always)]
     fn rows(self, weights: Weights, values: &[i32; 16]) -> [i32; 16]
         requires { Small 8388608 values.now }
         ensures { result ≡ raster 4 4 (row_sums weights.kernel self values.now) }
     {
-        let [a, b, c, d] = self.row(weights, values, 0);
-        let [e, f, g, h] = self.row(weights, values, 1);
-        let [i, j, k, l] = self.row(weights, values, 2);
-        let [m, n, o, p] = self.row(weights, values, 3);
+        let v = self.extended_rows(values);
+        let [a, b, c, d] = self.row(weights, &v, 0);
+        let [e, f, g, h] = self.row(weights, &v, 1);
+        let [i, j, k, l] = self.row(weights, &v, 2);
+        let [m, n, o, p] = self.row(weights, &v, 3);
         [a, e, i, m, b, f, j, n, c, g, k, o, d, h, l, p]
     }
 }
@@ -129,11 +144,13 @@ pub fn expand_first(columns: Step, rows: Step, weights: Weights, values: &[i32; 
     requires { Small 524288 values.now }
     ensures { result ≡ round_div (block_sum weights.kernel columns rows values.now 0 0) 100 }
 {
-    let [a, _, _, _] = columns.row(weights, values, 0);
-    let [b, _, _, _] = columns.row(weights, values, 1);
-    let [c, _, _, _] = columns.row(weights, values, 2);
-    let [d, _, _, _] = columns.row(weights, values, 3);
-    let [sum, _, _, _] = rows.line(weights, [a, b, c, d]);
+    let v = columns.extended_rows(values);
+    let [a, _, _, _] = columns.row(weights, &v, 0);
+    let [b, _, _, _] = columns.row(weights, &v, 1);
+    let [c, _, _, _] = columns.row(weights, &v, 2);
+    let [d, _, _, _] = columns.row(weights, &v, 3);
+    let down = rows.extended([a, b, c, d]);
+    let [sum, _, _, _] = rows.line(weights, down);
     let mut one: [i32; 1] = [sum];
     quantizer::round_row(&mut one, 100);
     one[0]

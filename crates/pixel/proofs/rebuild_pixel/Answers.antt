@@ -1,8 +1,7 @@
 -- `pixel::rebuild_pixel` meets its contract: each rule is looked at where those before it hold, and then the pixel is rebuilt. Assumes nothing.
-use Rattle.std.proofs.Common.{◌≡◌, ◌∙◌, sym, ap, subst, ◌<◌, length, arith}
+use Rattle.std.proofs.Common.{◌≡◌, ◌∙◌, sym, ◌<◌, length, arith}
 use Rattle.refusals.specs.declared.Refusal.TheVariants.{LevelsLength, Place, Index}
 use Rattle.refusals.proofs.Outcomes.{refuses, accepts, none, value-is, some, passed_on}
-use Rattle.pyramid.specs.declared.Settings.{Settings}
 use Rattle.pyramid.specs.Definitions.Sizes.{total}
 use Rattle.pyramid.specs.Definitions.Refusals.{settings_refusal}
 use Rattle.pyramid.proofs.Refusals.{first_stop}

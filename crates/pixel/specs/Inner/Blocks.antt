@@ -11,6 +11,10 @@ use Rattle.pixel.specs.declared.axes.Step.{Step}
 unfoldable pub extended : Axis → (ℕ → ℤ) → ℕ → ℤ
 extended a v n = cond (eqb a.end n) (v (n - 2)) (cond (eqb n 0 && eqb a.next 0) (v 2) (v n))
 
+-- each row of a block
+unfoldable pub extended_rows : Axis → List ℤ → Level
+extended_rows a values n y = extended a (λ x. as_level 4 values x y) n
+
 -- what EXPAND takes of them for place m of the level below: that is an odd column (row) where m and the next of that level are both even or both odd
 unfoldable pub line_sum : (k next : ℕ) → (ℕ → ℤ) → ℕ → ℤ
 line_sum k next v m = sum 5 (λ t. even_weight k (next % 2 + m + 1) t *ℤ v ((next % 2 + m + 3 - t) / 2))

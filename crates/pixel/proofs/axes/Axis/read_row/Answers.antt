@@ -1,5 +1,5 @@
 -- `pixel::axes::Axis::read_row` meets its contract: each turn writes a place, and counts it where it is the window's. Assumes nothing.
-use Rattle.std.proofs.Common.{◌≡◌, ◌∙◌, sym, ap, ℕ, ◌+◌, refl, arith}
+use Rattle.std.proofs.Common.{◌≡◌, ◌∙◌, sym, ap, ℕ, ◌+◌, arith}
 use borrow.Author.Rules.{sfits_of}
 use Rattle.mathematics.proofs.Held.{held_is}
 use Rattle.mathematics.proofs.Filling.{filling_start, filling_next}

@@ -1,8 +1,6 @@
 -- `pixel::reading::Window::read` meets its contract: each turn writes a row of the block, and adds how many were read for it. Assumes nothing.
 use Rattle.std.proofs.Common.{◌≡◌, ◌∙◌, sym, ap, ℕ, ◌+◌, ◌-◌, ◌*◌, ◌≤◌, length, refl, arith}
 use native.Mathlib.Nat.{mul-le-mul, zero-mul}
-use mir.Syntax.{w16}
-use mir.Val.{Fits}
 use Rattle.mathematics.proofs.Tables.{length-tabulate}
 use Rattle.mathematics.proofs.Splices.{splice_whole}
 use Rattle.pyramid.proofs.Buffers.{length-raster}

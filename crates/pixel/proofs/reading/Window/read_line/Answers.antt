@@ -1,8 +1,7 @@
 -- `pixel::reading::Window::read_line` meets its contract: a row of the level, or zeros. Assumes nothing.
-use Rattle.std.proofs.Common.{◌≡◌, ◌∙◌, sym, ◌+◌, ◌-◌, ◌*◌, ◌≤◌, ap, ◌*ℤ◌, ℤ, pos, get_or, length, arith}
+use Rattle.std.proofs.Common.{◌∙◌, sym, ap, ◌*ℤ◌, ℤ, pos, arith}
 use Rattle.mathematics.proofs.Splices.{get_or-part}
 use Rattle.pyramid.specs.Inner.Rows.{as_level}
-use Rattle.pixel.specs.Inner.Places.{holds}
 use Rattle.pixel.proofs.PlacesHeld.{is_held, row_not, row_there, row_room}
 use Rattle.pixel.proofs.reading.Window.read_line.Goals as goal
 use Rattle.pixel.proofs.reading.Window.read_line.Goals.{After-read_row}

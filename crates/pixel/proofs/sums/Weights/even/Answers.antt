@@ -1,5 +1,5 @@
 -- `pixel::sums::Weights::even` meets its contract: every step fits, and the weights are the paper's formula. Assumes nothing.
-use Rattle.pyramid.proofs.TapSums.{difference_fits, product_fits, odd_fits}
+use Rattle.pyramid.proofs.TapSums.{difference_fits, product_fits}
 use Rattle.pixel.proofs.Taken.{even_fits, even_held}
 use Rattle.pixel.proofs.sums.Weights.even.Goals as goal
 

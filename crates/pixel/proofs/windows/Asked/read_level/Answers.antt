@@ -1,16 +1,12 @@
 -- `pixel::windows::Asked::read_level` meets its contract: the window's values, tested, with what is predicted for them. Assumes nothing.
-use Rattle.std.proofs.Common.{◌≡◌, ◌∙◌, sym, ap, subst, suc, ◌+◌, ◌-◌, ◌*◌, ◌≤◌, List, length, refl, get_or, ℕ, ℤ, arith}
-use mir.Syntax.{w16, w64}
-use mir.Val.{Fits}
+use Rattle.std.proofs.Common.{◌≡◌, ◌∙◌, sym, suc, ◌+◌, ◌-◌, ◌*◌, ◌≤◌, length, refl, get_or, arith}
 use Rattle.mathematics.specs.Inner.Splices.{part}
 use Rattle.pyramid.specs.Definitions.Settings.{bin}
-use Rattle.pyramid.specs.Definitions.Sizes.{nodes_at, total}
+use Rattle.pyramid.specs.Definitions.Sizes.{nodes_at}
 use Rattle.pyramid.specs.Definitions.Buffers.{start}
 use Rattle.pyramid.proofs.Sizes.{total_most}
 use Rattle.pyramid.proofs.Ranges.{height_room}
 use Rattle.pyramid.proofs.TapSums.{within_more}
-use Rattle.pixel.specs.Definitions.Windows.{nodes_read}
-use Rattle.pixel.specs.Inner.Reading.{Above, Predicted}
 use Rattle.pixel.proofs.Ranges.{nodes_most}
 use Rattle.pixel.proofs.Predictions.{prediction_most}
 use Rattle.pixel.proofs.Readings.{nodes_are, level_room, fails, block-small, read_more, next_above, some_same}

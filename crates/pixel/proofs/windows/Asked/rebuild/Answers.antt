@@ -1,8 +1,8 @@
 -- `pixel::windows::Asked::rebuild` meets its contract: the pixel's value, tested, with what is predicted for it. Assumes nothing.
-use Rattle.std.proofs.Common.{◌≡◌, ◌∙◌, sym, ap, subst, refl, ◌+◌, ◌*◌, ◌≤◌, ◌<◌, ◌+ℤ◌, ◌-◌, ◌*ℤ◌, nat_abs, ℕ, ℤ, pos, get_or, length, arith, rules}
-use mir.Syntax.{w16, w64}
-use mir.Val.{Fits, SFits}
-use Rattle.mathematics.proofs.Held.{held, held_is}
+use Rattle.std.proofs.Common.{◌≡◌, ◌∙◌, sym, ap, ◌+◌, ◌*◌, ◌≤◌, ◌<◌, ◌+ℤ◌, ◌-◌, ◌*ℤ◌, nat_abs, ℤ, pos, get_or, length, arith, rules}
+use mir.Syntax.{w16}
+use mir.Val.{SFits}
+use Rattle.mathematics.proofs.Held.{held}
 use Rattle.pyramid.specs.Definitions.Rebuilding.{value_of, clamp}
 use Rattle.pyramid.specs.Definitions.Buffers.{read_levels}
 use Rattle.pyramid.specs.Definitions.Refusals.{limit}
