@@ -51,11 +51,11 @@ height-is (suc d) = refl
 
 -- ---- before any level was read
 
-pub above_top : (s : Settings) (column row : ℕ) (levels values : List ℤ) → Above s column row levels (s.depth - 0) 0 0 values
+pub above_top : (s : Settings) (column row : ℕ) (levels values : List ℤ) → Above s column row levels s.depth 0 0 values
 above_top s column row levels values = record {
-  place_is = let e : s.depth - 0 ≡ s.depth = omega arith in rw e (sym (start_top s));
+  place_is = sym (start_top s);
   lawful = λ k i j hl hk held. absurd (omega arith);
-  counted = let e : s.depth - 0 ≡ s.depth = omega arith in rw (zero-add, e);
+  counted = rw zero-add;
   small = λ h. absurd (omega arith);
   is = λ h. absurd (omega arith);
 }

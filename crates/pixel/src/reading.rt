@@ -86,6 +86,7 @@ pub struct Window {
 
 impl Window {
     // Row n of the block, and how many were read.
+    #[inline(always)]
     fn read_line(self, level: &[i16], bin: u16, n: usize, values: &mut [i32]) -> u16
         requires { (n < 4) × (length values.old ≡ 4) × (bin ≤ 255) × (length level.now ≡ (self.rows.z + 1) * (self.columns.z + 1)) }
         ensures count { result ≡ cond (holds self.rows n) (places self.columns) 0 }
@@ -101,6 +102,7 @@ impl Window {
     }
 
     // The whole block.
+    #[inline(always)]
     pub fn read(self, level: &[i16], bin: u16) -> Block
         requires { (bin ≤ 255) × (length level.now ≡ (self.rows.z + 1) * (self.columns.z + 1)) }
         ensures count { result.read ≡ places self.rows * places self.columns }

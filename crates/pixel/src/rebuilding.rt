@@ -35,17 +35,14 @@ impl Asked {
         Weights::new(LawfulSettings { settings })
     }
 
-    // What is predicted for the window of a level: at the top 0.
+    // What is predicted for the window of a level below the top.
     fn predict(self, level: u16, upper: Upper) -> [i32; 16]
-        requires deep { level ≤ self.settings.depth }
-        requires small { suc level ≤ self.settings.depth → Small 524288 upper.block.values }
+        requires deep { level < self.settings.depth }
+        requires small { Small 524288 upper.block.values }
         ensures { (levels : List ℤ) → Above self.settings self.column self.row levels level upper.block.read upper.place upper.block.values
             → Predicted self.settings self.column self.row levels level result }
     {
         let s = self.settings;
-        if level == s.depth {
-            return [0; 16];
-        }
         let columns = Step::new(s.columns, self.column, level);
         let rows = Step::new(s.rows, self.row, level);
         sums::expand(columns, rows, self.weights(), &upper.block.values)
@@ -66,17 +63,24 @@ impl Asked {
         sums::expand_first(columns, rows, self.weights(), &upper.block.values)
     }
 
-    // Reads the window of a level above the pixel's; nothing where an index in it times its bin is outside ±4,096.
-    fn read_level(self, level: u16, levels: &[i16], upper: Upper) -> Option<Upper>
+    // Reads the window of a level above the pixel's, with what is predicted for it; nothing where an index in it times its bin is outside ±4,096.
+    #[inline(always)]
+    fn read_level(
+        self,
+        level: u16,
+        levels: &[i16],
+        upper: Upper,
+        predicted: [i32; 16],
+    ) -> Option<Upper>
         requires deep { (1 ≤ level) × (level ≤ self.settings.depth) }
         requires long { length levels.now ≡ total self.settings }
         requires above { Above self.settings self.column self.row levels.now level upper.block.read upper.place upper.block.values }
+        requires prediction { Predicted self.settings self.column self.row levels.now level predicted }
         ensures read { (lower : Upper) → result ≡ Some lower
             → Above self.settings self.column self.row levels.now (level - 1) lower.block.read lower.place lower.block.values }
         ensures refused { result ≡ None → LawfulFrom self.settings self.column self.row levels.now level → ⊥ }
     {
         let s = self.settings;
-        let mut values = self.predict(level, upper);
         let columns = Axis::new(s.columns, self.column, level);
         let rows = Axis::new(s.rows, self.row, level);
         let place = upper.place + (rows.z + 1) * (columns.z + 1);
@@ -85,6 +89,7 @@ impl Asked {
         if !reading::values_ok(&own.values) {
             return None;
         }
+        let mut values = predicted;
         reading::add(&own.values, &mut values);
         let read = upper.block.read + own.read;
         Some(Upper {
@@ -93,20 +98,37 @@ impl Asked {
         })
     }
 
-    // Reads the windows of all levels above the pixel's, from the top down.
+    // The same of a level below the top, from the block above.
+    #[inline(always)]
+    fn read_below(self, level: u16, levels: &[i16], upper: Upper) -> Option<Upper>
+        requires deep { (1 ≤ level) × (level < self.settings.depth) }
+        requires long { length levels.now ≡ total self.settings }
+        requires above { Above self.settings self.column self.row levels.now level upper.block.read upper.place upper.block.values }
+        ensures read { (lower : Upper) → result ≡ Some lower
+            → Above self.settings self.column self.row levels.now (level - 1) lower.block.read lower.place lower.block.values }
+        ensures refused { result ≡ None → LawfulFrom self.settings self.column self.row levels.now level → ⊥ }
+    {
+        let predicted = self.predict(level, upper);
+        self.read_level(level, levels, upper, predicted)
+    }
+
+    // Reads the windows of all levels above the pixel's, from the top down. For the top nothing is predicted.
     fn read_above(self, levels: &[i16]) -> Option<Upper>
         requires { length levels.now ≡ total self.settings }
         ensures read { (upper : Upper) → result ≡ Some upper
             → Above self.settings self.column self.row levels.now 0 upper.block.read upper.place upper.block.values }
         ensures refused { result ≡ None → LawfulFrom self.settings self.column self.row levels.now 1 → ⊥ }
     {
-        let block = Block {
-            values: [0; 16],
-            read: 0,
-        };
-        let mut upper = Upper { block, place: 0 };
-        for n in 0..self.settings.depth {
-            match self.read_level(self.settings.depth - n, levels, upper) {
+        let top = self.settings.depth;
+        let values = [0; 16];
+        let block = Block { values, read: 0 };
+        let none = Upper { block, place: 0 };
+        if top == 0 {
+            return Some(none);
+        }
+        let mut upper = self.read_level(top, levels, none, values)?;
+        for n in 1..top {
+            match self.read_below(top - n, levels, upper) {
                 Some(lower) => upper = lower,
                 None => return None,
             }

@@ -1,21 +1,16 @@
 -- `pixel::windows::Asked::read_level` meets its contract: the window's values, tested, with what is predicted for them. Assumes nothing.
-use Rattle.std.proofs.Common.{◌≡◌, ◌∙◌, sym, suc, ◌+◌, ◌-◌, ◌*◌, ◌≤◌, length, refl, get_or, arith}
+use Rattle.std.proofs.Common.{◌≡◌, ◌∙◌, sym, ◌+◌, ◌-◌, ◌*◌, ◌≤◌, length, refl, get_or, arith}
 use Rattle.mathematics.specs.Inner.Splices.{part}
 use Rattle.pyramid.specs.Definitions.Settings.{bin}
 use Rattle.pyramid.specs.Definitions.Sizes.{nodes_at}
 use Rattle.pyramid.specs.Definitions.Buffers.{start}
 use Rattle.pyramid.proofs.Sizes.{total_most}
-use Rattle.pyramid.proofs.Ranges.{height_room}
 use Rattle.pyramid.proofs.TapSums.{within_more}
 use Rattle.pixel.proofs.Ranges.{nodes_most}
 use Rattle.pixel.proofs.Predictions.{prediction_most}
 use Rattle.pixel.proofs.Readings.{nodes_are, level_room, fails, block-small, read_more, next_above, some_same}
 use Rattle.pixel.proofs.windows.Asked.read_level.Goals as goal
 use Rattle.pixel.proofs.windows.Asked.read_level.Goals.{After-new-rows, After-read-own}
-
-pub predict-values-requires-clause-small : goal.predict-values-requires-clause-small
-predict-values-requires-clause-small c = λ h p.
-    within_more (height_room (c.args.self.settings.depth - suc c.args.level) (omega (arith, c.args.self.lawful.shaped.deep))) (c.requires.above.small h p)
 
 -- the level's place in the buffer
 module _ (n : After-new-rows) where
@@ -62,11 +57,10 @@ returns-then-not-values_ok-clause-refused c = λ e lawful.
 pub add-requires : goal.add-requires
 add-requires c =
     let n = (goal.at.add-requires c).After-read-own in
-    let a = c.args.self in
-    let prediction = c.predict-values.ensures c.args.levels.now c.requires.above in (
+    let a = c.args.self in (
       block-small a.settings a.column a.row a.inside.0 a.inside.1 c.args.levels.now c.requires.long c.args.level c.requires.deep.1 c.new-columns.ensures c.new-rows.ensures
           (here n) (bin_here n) c.read-own.ensures.values (sym c.values_ok.ensures ∙ c.if-not-values_ok.false),
-      λ p. within_more (prediction_most (a.settings.depth - c.args.level) (omega (arith, a.lawful.shaped.deep))) (prediction.small p),
+      λ p. within_more (prediction_most (a.settings.depth - c.args.level) (omega (arith, a.lawful.shaped.deep))) (c.requires.prediction.small p),
     )
 
 pub overflow_add-read : goal.overflow_add-read
@@ -74,7 +68,7 @@ overflow_add-read c =
     let n = (goal.at.overflow_add-read c).After-read-own in
     let a = c.args.self in
     let total = read_more a.settings a.column a.row a.inside.0 a.inside.1 c.args.levels.now c.requires.long c.args.level c.requires.deep.1 c.new-columns.ensures c.new-rows.ensures
-    (here n) (bin_here n) c.read-own.ensures.values c.requires.above (c.predict-values.ensures c.args.levels.now c.requires.above) c.add.array_long c.add.ensures
+    (here n) (bin_here n) c.read-own.ensures.values c.requires.above c.requires.prediction c.add.array_long c.add.ensures
     (sym c.values_ok.ensures ∙ c.if-not-values_ok.false) (c.args.level - 1) (omega (arith, c.requires.deep.0)) in
     record { fits = omega (arith, total, c.read-own.ensures.count, nodes_most a.settings a.column a.row a.settings.depth a.lawful.shaped.deep) }
 
@@ -83,6 +77,6 @@ returns-clause-read c = λ lower e.
     let n = (goal.at.returns-clause-read c).After-read-own in
     let a = c.args.self in
     let next = next_above a.settings a.column a.row a.inside.0 a.inside.1 c.args.levels.now c.requires.long c.args.level c.requires.deep.1 c.new-columns.ensures c.new-rows.ensures
-    (here n) (bin_here n) c.read-own.ensures.values c.requires.above (c.predict-values.ensures c.args.levels.now c.requires.above) c.add.array_long c.add.ensures
+    (here n) (bin_here n) c.read-own.ensures.values c.requires.above c.requires.prediction c.add.array_long c.add.ensures
     (sym c.values_ok.ensures ∙ c.if-not-values_ok.false) (c.args.level - 1) (omega (arith, c.requires.deep.0)) in
     rw (← some_same e, c.read-own.ensures.count) next
