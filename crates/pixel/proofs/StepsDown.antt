@@ -19,9 +19,9 @@ use Rattle.pyramid.proofs.NodesRead.{taps_same}
 use Rattle.pixel.specs.declared.axes.Axis.{Axis}
 use Rattle.pixel.specs.declared.axes.Step.{Step}
 use Rattle.pixel.specs.Definitions.Windows.{range_at, inside}
-use Rattle.pixel.specs.Inner.Axes.{StepOf}
+use Rattle.pixel.specs.Inner.Axes.{AxisOf, StepOf}
 use Rattle.pixel.specs.Inner.Blocks.{extended, line_sum}
-use Rattle.pixel.proofs.Ranges.{inside_is, every_node_read, range_most, first_is, halve, above_last}
+use Rattle.pixel.proofs.Ranges.{two_at_least, inside_is, every_node_read, range_most, first_is, halve, above_last}
 
 -- ---- a place that EXPAND reads, by the column that it reflects to
 
@@ -106,3 +106,11 @@ module _ {side depth p : ℕ} (h : Side side depth) (here : p < side) (l : ℕ) 
       let parity : (a.below % 2 + (i + 1 - (p + 1) / 2 ^ l) + 1) % 2 ≡ i % 2 = omega (arith, of.below_is, first_is side p here l, low) in
       rw (even_parity k (a.below % 2 + (i + 1 - (p + 1) / 2 ^ l) + 1), parity, ← even_parity k i)
       (taps_same k i _ _ (λ t ht taken. tap_is i t held ht taken V U same))
+
+-- ---- the step from the window above, which has two columns (rows) or more
+
+pub axis_wide : {side depth p : ℕ} (h : Side side depth) (here : p < side) (l : ℕ) → suc l ≤ depth → {a : Axis} → AxisOf side p (suc l) a → 2 ≤ a.end
+axis_wide h here l deep of = omega (arith, of.next_is, of.end_is, two_at_least h here l deep)
+
+pub step_of : {side p l : ℕ} (s : Step) {a : Axis} → (s.below ≡ (p + 1) / 2 ^ l) × (s.above ≡ a) → AxisOf side p (suc l) a → StepOf side p l s
+step_of s e of = record { below_is = e.0; above_is = rw e.1 of }

@@ -32,5 +32,6 @@ worked_pixels = record {
   white = refl;
   index = (refl, refl);
   place = (refl, refl);
+  order = refl;
   length = refl;
 }

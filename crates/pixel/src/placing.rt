@@ -1,7 +1,6 @@
 // Where the columns, or the rows, of a window stand (document 02, P6), by the pixel's.
-ghost use Rattle.std.specs.Prelude.{◌≡◌, suc, ◌+◌, ◌/◌, ◌^◌, ◌≤◌, ◌<◌};
-ghost use Rattle.pixel.specs.Definitions.Windows.{range_at};
-ghost use Rattle.pixel.specs.Inner.Axes.{AxisOf, StepOf};
+ghost use Rattle.std.specs.Prelude.{◌≡◌, ◌+◌, ◌/◌, ◌^◌, ◌≤◌, ◌<◌};
+ghost use Rattle.pixel.specs.Inner.Axes.{AxisOf};
 
 use crate::axes::{Axis, Step};
 
@@ -24,14 +23,14 @@ impl Axis {
 }
 
 impl Step {
-    // That of the step down to a level.
-    pub fn new(side: u16, p: u16, level: u16) -> Step
-        requires { (p < side) × (side ≤ 129) × (level ≤ 5) × ((p + 1) / 2 ^ suc level ≤ (range_at side p (suc level)).last) }
-        ensures { StepOf side p level result }
+    // That of the step down to a level from the window above it.
+    pub fn new(p: u16, level: u16, above: Axis) -> Step
+        requires { (p ≤ 128) × (level ≤ 5) × (2 ≤ above.end) }
+        ensures { (result.below ≡ (p + 1) / 2 ^ level) × (result.above ≡ above) }
     {
         Step {
             below: (usize::from(p) + 1) >> level,
-            above: Axis::new(side, p, level + 1),
+            above,
         }
     }
 }

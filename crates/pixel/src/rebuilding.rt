@@ -7,6 +7,7 @@ ghost use Rattle.pyramid.specs.Definitions.Rebuilding.{value_of, rebuilt, clamp}
 ghost use Rattle.pixel.specs.declared.windows.Upper.{Upper};
 ghost use Rattle.pixel.specs.declared.RebuiltPixel.{RebuiltPixel};
 ghost use Rattle.pixel.specs.Definitions.Windows.{nodes_read};
+ghost use Rattle.pixel.specs.Inner.Axes.{AxesOf};
 ghost use Rattle.pixel.specs.Inner.Reading.{LawfulFrom, Above, Predicted, PixelPredicted};
 
 use crate::axes::{Axis, Step};
@@ -38,28 +39,28 @@ impl Asked {
     // What is predicted for the window of a level below the top.
     fn predict(self, level: u16, upper: Upper) -> [i32; 16]
         requires deep { level < self.settings.depth }
+        requires axes { AxesOf self.settings self.column self.row (suc level) upper.columns upper.rows }
         requires small { Small 524288 upper.block.values }
         ensures { (levels : List ℤ) → Above self.settings self.column self.row levels level upper.block.read upper.place upper.block.values
             → Predicted self.settings self.column self.row levels level result }
     {
-        let s = self.settings;
-        let columns = Step::new(s.columns, self.column, level);
-        let rows = Step::new(s.rows, self.row, level);
+        let columns = Step::new(self.column, level, upper.columns);
+        let rows = Step::new(self.row, level, upper.rows);
         sums::expand(columns, rows, self.weights(), &upper.block.values)
     }
 
     // The first place of it alone, for the pixel.
     fn predict_pixel(self, upper: Upper) -> i32
+        requires axes { 1 ≤ self.settings.depth → AxesOf self.settings self.column self.row 1 upper.columns upper.rows }
         requires small { 1 ≤ self.settings.depth → Small 524288 upper.block.values }
         ensures { (levels : List ℤ) → Above self.settings self.column self.row levels 0 upper.block.read upper.place upper.block.values
             → PixelPredicted self.settings self.column self.row levels result }
     {
-        let s = self.settings;
-        if s.depth == 0 {
+        if self.settings.depth == 0 {
             return 0;
         }
-        let columns = Step::new(s.columns, self.column, 0);
-        let rows = Step::new(s.rows, self.row, 0);
+        let columns = Step::new(self.column, 0, upper.columns);
+        let rows = Step::new(self.row, 0, upper.rows);
         sums::expand_first(columns, rows, self.weights(), &upper.block.values)
     }
 
@@ -78,6 +79,7 @@ impl Asked {
         requires prediction { Predicted self.settings self.column self.row levels.now level predicted }
         ensures read { (lower : Upper) → result ≡ Some lower
             → Above self.settings self.column self.row levels.now (level - 1) lower.block.read lower.place lower.block.values }
+        ensures axes { (lower : Upper) → result ≡ Some lower → AxesOf self.settings self.column self.row level lower.columns lower.rows }
         ensures refused { result ≡ None → LawfulFrom self.settings self.column self.row levels.now level → ⊥ }
     {
         let s = self.settings;
@@ -94,6 +96,8 @@ impl Asked {
         let read = upper.block.read + own.read;
         Some(Upper {
             block: Block { values, read },
+            columns,
+            rows,
             place,
         })
     }
@@ -102,10 +106,12 @@ impl Asked {
     #[inline(always)]
     fn read_below(self, level: u16, levels: &[i16], upper: Upper) -> Option<Upper>
         requires deep { (1 ≤ level) × (level < self.settings.depth) }
+        requires axes { AxesOf self.settings self.column self.row (suc level) upper.columns upper.rows }
         requires long { length levels.now ≡ total self.settings }
         requires above { Above self.settings self.column self.row levels.now level upper.block.read upper.place upper.block.values }
         ensures read { (lower : Upper) → result ≡ Some lower
             → Above self.settings self.column self.row levels.now (level - 1) lower.block.read lower.place lower.block.values }
+        ensures axes { (lower : Upper) → result ≡ Some lower → AxesOf self.settings self.column self.row level lower.columns lower.rows }
         ensures refused { result ≡ None → LawfulFrom self.settings self.column self.row levels.now level → ⊥ }
     {
         let predicted = self.predict(level, upper);
@@ -117,12 +123,24 @@ impl Asked {
         requires { length levels.now ≡ total self.settings }
         ensures read { (upper : Upper) → result ≡ Some upper
             → Above self.settings self.column self.row levels.now 0 upper.block.read upper.place upper.block.values }
+        ensures axes { (upper : Upper) → result ≡ Some upper → 1 ≤ self.settings.depth
+            → AxesOf self.settings self.column self.row 1 upper.columns upper.rows }
         ensures refused { result ≡ None → LawfulFrom self.settings self.column self.row levels.now 1 → ⊥ }
     {
         let top = self.settings.depth;
         let values = [0; 16];
         let block = Block { values, read: 0 };
-        let none = Upper { block, place: 0 };
+        let axis = Axis {
+            next: 0,
+            end: 0,
+            z: 0,
+        };
+        let none = Upper {
+            block,
+            columns: axis,
+            rows: axis,
+            place: 0,
+        };
         if top == 0 {
             return Some(none);
         }

@@ -2,6 +2,7 @@
 ghost use Rattle.std.specs.Prelude.{◌<◌};
 ghost use Rattle.pyramid.specs.Inner.Lawful.{Lawful};
 
+use crate::axes::Axis;
 use crate::reading::Block;
 use pyramid::Settings;
 
@@ -15,9 +16,12 @@ pub struct Asked {
     ghost inside: { (column < settings.columns) × (row < settings.rows) },
 }
 
-// What is known of the windows above a level: the values of the one just above it, and where the level starts in a buffer of all levels.
+// What is known of the windows above a level: the values of the one just above it and where they stand, and where the level starts in a buffer of all
+// levels.
 #[derive(Clone, Copy)]
 pub struct Upper {
     pub block: Block,
+    pub columns: Axis,
+    pub rows: Axis,
     pub place: usize,
 }

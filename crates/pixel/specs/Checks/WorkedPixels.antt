@@ -23,7 +23,8 @@ pub record WorkedPixels : Type 0 where
   pub own : pixel_answer alone 1 1 unlawful ≡ record { refusal = 0; pixel = 50; read = 1 }
   pub black : pixel_answer alone 1 2 unlawful ≡ record { refusal = 0; pixel = 16; read = 1 }
   pub white : pixel_answer alone 2 2 unlawful ≡ record { refusal = 0; pixel = 235; read = 1 }
-  -- 11 for its own index alone; 21 before 11, and 6 before 21
+  -- 11 for its own index alone; 21 before 11, of piece A with an index of 1025 in its place; 6 before 21
   pub index : (pixel_answer alone 0 1 unlawful ≡ refused_with 11) × (pixel_answer alone 2 1 unlawful ≡ refused_with 11)
   pub place : (pixel_answer alone 3 1 unlawful ≡ refused_with 21) × (pixel_answer alone 1 3 unlawful ≡ refused_with 21)
+  pub order : pixel_answer piece_a 3 1 (pos 6 ∷ pos 6 ∷ pos 6 ∷ pos 1025 ∷ replicate 9 (pos 0)) ≡ refused_with 21
   pub length : pixel_answer alone 3 3 (pos 0 ∷ unlawful) ≡ refused_with 6

@@ -80,3 +80,6 @@ returns-clause-read c = λ lower e.
     (here n) (bin_here n) c.read-own.ensures.values c.requires.above c.requires.prediction c.add.array_long c.add.ensures
     (sym c.values_ok.ensures ∙ c.if-not-values_ok.false) (c.args.level - 1) (omega (arith, c.requires.deep.0)) in
     rw (← some_same e, c.read-own.ensures.count) next
+
+pub returns-clause-axes : goal.returns-clause-axes
+returns-clause-axes c = λ lower e. rw (← some_same e) (record { columns_are = c.new-columns.ensures; rows_are = c.new-rows.ensures })

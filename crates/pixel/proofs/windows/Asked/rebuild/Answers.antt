@@ -85,7 +85,10 @@ returns-then-unsigned_abs-gt4096-clause-refused c = λ e lawful.
 pub predict_pixel-requires : goal.predict_pixel-requires
 predict_pixel-requires c =
     let n = (goal.at.predict_pixel-requires c).After-unsigned_abs in
-    record { small = λ h p. within_more (height_room (c.args.self.settings.depth - 1) (omega (arith, c.args.self.lawful.shaped.deep))) ((upper n).small h p) }
+    record {
+      axes = n.read_above.ensures.axes n.in_ok-upper.upper n.in_ok-upper.was;
+      small = λ h p. within_more (height_room (c.args.self.settings.depth - 1) (omega (arith, c.args.self.lawful.shaped.deep))) ((upper n).small h p);
+    }
 
 -- what is predicted for it
 module _ (n : After-predict_pixel) where
