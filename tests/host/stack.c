@@ -8,7 +8,7 @@
 enum { SMALL_CASES = 5000, LARGE_CASES = 300, SMALL_SIDE = 9, LARGE_SIDE = 129, KNOWN = 3000, SLACK = 64 };
 
 /* The most that a call of a function of closed-loop coding, of one pixel or of PGM files may take. */
-enum { MOST_CLOSED_LOOP_CODING = 2432, MOST_CLOSED_LOOP_BOUNDS = 192, MOST_REBUILD_PIXEL = 1536 };
+enum { MOST_CLOSED_LOOP_CODING = 2432, MOST_CLOSED_LOOP_BOUNDS = 192, MOST_REBUILD_PIXEL = 1024 };
 enum { MOST_PGM_SIZE = 128, MOST_WRITE_PGM = 256, MOST_READ_PGM = 512, MOST_CHECK_PGM = 512 };
 
 /* The most that a call may take, and the least that the deepest one must have been seen to take: its arguments on the
