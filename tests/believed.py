@@ -5,9 +5,11 @@ In each crate of the product, specs/Definitions holds what public promises and t
 demands' statements, specs/Checks statements that pin the definitions from a second side, on which nothing rests, and
 specs/Inner the words of contracts that only the crate itself can meet. What must be believed are the first two.
 Checked are: that every file of specs/ is in one of these; that Definitions and Theorems use nothing of the others, and
-Checks nothing of Inner and no law of proofs/; that no promise of a public function does; that every definition is
-reached from a promise or a theorem; that every statement is proved; and that the list in docs/CLAIMS.md has every file with its number of lines, README.md and docs/REGULATOR.md the same
-files in the same order, and all three their sum. Lines of definitions are counted: no imports, comments or blank lines.
+Checks nothing of Inner and no law of proofs/; that no promise of a public function does, nor what a public type says by its
+ghost fields or invariant, nor a law of a trait that it has; that every definition is reached from a promise or a theorem;
+that every statement is proved; and that the list in docs/CLAIMS.md has every file with its number of lines, README.md and
+docs/REGULATOR.md the same files in the same order, and all three their sum. Lines of definitions are counted: no imports,
+comments or blank lines.
 Ends with one line 'N passed, M failed'; the exit status is 1 if M is not 0.
 """
 import pathlib
@@ -66,14 +68,32 @@ def apart(parts, folders=('Inner', 'Checks')):
     return parts[0] == 'proofs' or parts[1] in folders
 
 
+def public_types(source, opened, passed_on):
+    """The types that another crate can name, each with its declaration and its file's text."""
+    for path in sorted(source.rglob('*.rt')):
+        text = re.sub(r'//[^\n]*', '', text_of(path))
+        for found in re.finditer(r'(?m)^pub (?:struct|enum) (\w+)[^\n]*\{(.*?)^\}', text, re.S):
+            if path.name == 'lib.rt' or path.stem in opened or found.group(1) in passed_on:
+                yield found.group(1), found.group(2), text
+
+
+def facts(declaration):
+    """What a type, or a trait that a type has, says by ghost fields and laws."""
+    return ' '.join(re.findall(r'\bghost \w+\s*[:=] \{.*?\}(?=[,;]\n)', declaration, re.S))
+
+
 def promises(crate):
-    """The contracts of the functions and methods that another crate can call, each with its file's text."""
+    """The contracts of the functions and methods that another crate can call, what the types say that it can name, and the laws of the
+    traits that these have, each with its file's text."""
     source = ROOT / 'crates' / crate / 'src'
     if not (source / 'lib.rt').exists():
         return
     root = text_of(source / 'lib.rt')
     passed_on = {name for names in re.findall(r'pub use \w+::\{?([\w, ]+)\}?;', root) for name in names.split(', ')}
     opened = set(re.findall(r'(?m)^pub mod (\w+);', root))
+    types = list(public_types(source, opened, passed_on))
+    named = {name for name, _, _ in types}
+    yield from ((name, facts(inside), text) for name, inside, text in types if facts(inside))
     for path in sorted(source.rglob('*.rt')):
         text = re.sub(r'//[^\n]*', '', text_of(path))
         for found in re.finditer(r'(?m)^pub (?:extern "C" )?fn (\w+)(.*?)^\{', text, re.S):
@@ -83,6 +103,9 @@ def promises(crate):
             if path.name == 'lib.rt' or path.stem in opened or block.group(1) in passed_on:
                 for found in re.finditer(r'(?m)^    pub fn (\w+)(.*?)^    \{', block.group(2), re.S):
                     yield '%s::%s' % (block.group(1), found.group(1)), found.group(2), text
+        for block in re.finditer(r'(?m)^impl ([\w<>]+ for \w+) \{(.*?)^\}', text, re.S):
+            if named & set(re.findall(r'\w+', block.group(1))):
+                yield block.group(1), facts(block.group(2)), text
 
 
 def closure(start):
@@ -98,18 +121,18 @@ def closure(start):
 
 def check_promises(crates):
     """No promise uses a word that stands apart; answers the files that promises use."""
-    used, functions = [], 0
+    used, counted = [], 0
     for crate in crates:
         for name, contract, text in promises(crate):
-            functions += 1
+            counted += 1
             for other, parts, names in imports(text):
                 named = [n for n in names if re.search(r'(?<![\w-])%s(?![\w-])' % re.escape(n), contract)]
                 if named and apart(parts):
                     check(False, '%s::%s promises in words that stand apart: %s' % (crate, name, ', '.join(named)))
                 elif named:
                     used.append(file_of(other, parts))
-            check('ensures' in contract, '%s::%s promises nothing' % (crate, name))
-    print('%d public functions' % functions)
+            check('ensures' in contract or 'ghost' in contract, '%s::%s promises nothing' % (crate, name))
+    print('%d promises of public functions, types and traits' % counted)
     return used
 
 

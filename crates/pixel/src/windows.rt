@@ -1,5 +1,6 @@
 // The windows of a pixel, read from the top down (document 02, P6).
-ghost use Rattle.std.specs.Prelude.{◌<◌};
+ghost use Rattle.std.specs.Prelude.{◌≡◌, ◌<◌};
+ghost use Rattle.pyramid.specs.Definitions.Refusals.{settings_refusal};
 ghost use Rattle.pyramid.specs.Inner.Lawful.{Lawful};
 
 use crate::axes::Axis;
@@ -12,6 +13,7 @@ pub struct Asked {
     pub settings: Settings,
     pub column: u16,
     pub row: u16,
+    ghost passed: { settings_refusal settings ≡ 0 },
     ghost lawful: { Lawful settings },
     ghost inside: { (column < settings.columns) × (row < settings.rows) },
 }

@@ -10,6 +10,7 @@ use crate::taps::Weights;
 use crate::{LawfulSettings, Settings, Shape};
 
 // A level of these settings, by its number, and where it starts in a buffer of all levels.
+// Kept: a number, which is a level's name in the papers and counts from 0 to the depth; no enum has a case for each.
 #[derive(Clone, Copy)]
 pub struct Level {
     pub settings: Settings,

@@ -5,7 +5,6 @@ ghost use Rattle.pyramid.specs.Definitions.Settings.{bins_ok};
 ghost use Rattle.pyramid.specs.Definitions.Refusals.{unless, first, shape_refusal, settings_refusal, values_ok};
 ghost use Rattle.pyramid.specs.Definitions.Sizes.{nodes_at, total};
 ghost use Rattle.pyramid.specs.Definitions.Answers.{size_of, level_size_answer};
-ghost use Rattle.pyramid.specs.Inner.Lawful.{Shaped};
 
 use crate::{Dimensions, Settings, checking, layering};
 use refusals::Refusal;
@@ -17,7 +16,7 @@ use std::marker::Model;
 #[derive(Clone, Copy)]
 pub struct Shape {
     pub settings: Settings,
-    pub ghost shaped: { Shaped settings },
+    pub ghost shaped: { shape_refusal settings ≡ 0 },
 }
 
 impl Shape {
@@ -86,14 +85,15 @@ pub struct LawfulSettings {
 }
 
 impl Model for LawfulSettings {
+    ghost use Rattle.std.specs.Prelude.{◌≡◌};
     ghost use Rattle.pyramid.specs.declared.Settings.{Settings};
-    ghost use Rattle.pyramid.specs.Inner.Lawful.{Lawful};
+    ghost use Rattle.pyramid.specs.Definitions.Refusals.{settings_refusal};
 
     ghost Value = { Settings };
 
     ghost view = { λ a. a.settings };
 
-    ghost invariant = { λ a. Lawful a.settings };
+    ghost invariant = { λ a. settings_refusal a.settings ≡ 0 };
 
     ghost inverse = { λ s. record { settings = s } };
 }

@@ -5,7 +5,17 @@ use native.Mathlib.Omega.{arith}
 use lib.ListN.{length}
 use Rattle.bale.proofs.WordLaws.{low_bytes16, put16}
 use Rattle.bale.proofs.Pieces.{bins_start, bins_more, bins_end, bins_whole}
+use Rattle.pyramid.proofs.Refusals.{accepted_shape}
 use Rattle.bale.proofs.putting.put_bins.Goals as goal
+
+pub overflow_add-depth : goal.overflow_add-depth
+overflow_add-depth c = record { fits = omega (arith, (accepted_shape _ c.args.shape.shaped).deep) }
+
+pub overflow_add-level-end : goal.overflow_add-level-end
+overflow_add-level-end c = record { fits = omega (arith, (accepted_shape _ c.args.shape.shaped).deep) }
+
+pub bounds-bins-level : goal.bounds-bins-level
+bounds-bins-level c = omega (arith, c.loop-level-test.true, (accepted_shape _ c.args.shape.shaped).deep)
 
 pub loop-level-init : goal.loop-level-init
 loop-level-init c = bins_start _ _

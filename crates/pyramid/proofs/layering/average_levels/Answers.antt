@@ -4,6 +4,8 @@ use Rattle.pyramid.specs.declared.Settings.{Settings}
 use Rattle.pyramid.specs.Definitions.Sizes.{columns_at, rows_at, nodes_at}
 use Rattle.pyramid.specs.Definitions.Buffers.{start}
 use Rattle.pyramid.specs.Inner.Lawful.{Lawful}
+use Rattle.pyramid.specs.Definitions.Refusals.{settings_refusal}
+use Rattle.pyramid.proofs.Refusals.{accepted_settings}
 use Rattle.pyramid.proofs.AverageLevels.{Averaged, averaged_first, averaged_last, turn_cut, turn_after, turn_up, turn_reducible, turn_next}
 use Rattle.pyramid.proofs.layering.average_levels.Goals as goal
 use Rattle.pyramid.proofs.layering.average_levels.Goals.{After-lawful, After-start, After-start-start, After-raster}
@@ -14,8 +16,8 @@ loop-l-init c law long = averaged_first c.args.lawful law c.args.work.now long
 depth_is : {t s : Settings} → t ≡ s → t.depth ≡ s.depth
 depth_is e = ap (λ (s : Settings). s.depth) e
 
-law_of : {t s : Settings} → t ≡ s → Lawful t → Lawful s
-law_of e law = subst Lawful e law
+law_of : {t s : Settings} → t ≡ s → settings_refusal t ≡ 0 → Lawful s
+law_of e none = accepted_settings _ (subst (λ s. settings_refusal s ≡ 0) e none)
 
 pub split_at_mut-before-requires : goal.split_at_mut-before-requires
 split_at_mut-before-requires c =

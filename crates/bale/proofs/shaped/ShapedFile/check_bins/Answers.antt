@@ -1,9 +1,14 @@
 -- `bale::shaped::ShapedFile::check_bins` meets its contract: the section, then the bins. Assumes nothing.
 use mathlib.Core.Path.{sym, ◌∙◌}
+use native.Mathlib.Omega.{arith}
 use Rattle.refusals.proofs.Outcomes.{accepts, none, passed_on}
 use Rattle.bale.proofs.After.{section_after}
 use Rattle.bale.proofs.Checks.{bins_stop, bins_left}
+use Rattle.pyramid.proofs.Refusals.{accepted_shape}
 use Rattle.bale.proofs.shaped.ShapedFile.check_bins.Goals as goal
+
+pub overflow_add-self : goal.overflow_add-self
+overflow_add-self c = record { fits = omega (arith, (accepted_shape _ c.args.self.now.shape.shaped).deep) }
 
 pub returns-in_err-check_section : goal.returns-in_err-check_section
 returns-in_err-check_section c =

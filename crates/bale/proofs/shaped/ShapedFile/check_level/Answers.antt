@@ -8,7 +8,11 @@ use Rattle.pyramid.specs.Definitions.Refusals.{unless}
 use Rattle.bale.proofs.Sections.{section_whole}
 use Rattle.bale.proofs.After.{section_items}
 use Rattle.bale.proofs.Checks.{nodes_here, level_stop, level_left}
+use Rattle.pyramid.proofs.Refusals.{accepted_shape}
 use Rattle.bale.proofs.shaped.ShapedFile.check_level.Goals as goal
+
+pub bounds-bins-level : goal.bounds-bins-level
+bounds-bins-level c = omega (arith, c.requires, (accepted_shape _ c.args.self.now.shape.shaped).deep)
 
 pub returns-in_err-check_section : goal.returns-in_err-check_section
 returns-in_err-check_section c =

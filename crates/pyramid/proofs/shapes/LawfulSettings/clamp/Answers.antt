@@ -1,9 +1,16 @@
 -- `pyramid::shapes::LawfulSettings::clamp` meets its contract: to 0 and 255 first, and then to black and white. Assumes nothing.
-use Rattle.std.proofs.Common.{◌∙◌, rules}
+use Rattle.std.proofs.Common.{◌∙◌, rules, arith}
 use Rattle.pyramid.proofs.Copies.{clamped_stored}
+use Rattle.pyramid.proofs.Refusals.{accepted_settings}
 use Rattle.pyramid.proofs.shapes.LawfulSettings.clamp.Goals as goal
+
+pub overflow_cast-black : goal.overflow_cast-black
+overflow_cast-black c = let greys = (accepted_settings _ c.self.invariant).shaped.greys in record { fits = omega (arith, greys.below, greys.most) }
+
+pub overflow_cast-white : goal.overflow_cast-white
+overflow_cast-white c = record { fits = omega (arith, (accepted_settings _ c.self.invariant).shaped.greys.most) }
 
 pub returns : goal.returns
 returns c =
     c.min.ensures
-    ∙ rw (← c.self.view_is, c.max.ensures) (clamped_stored c.self.inside.settings c.self.invariant.shaped.greys (search rules) (search rules) c.clamp.ensures.value)
+    ∙ rw (← c.self.view_is, c.max.ensures) (clamped_stored c.self.inside.settings (accepted_settings _ c.self.invariant).shaped.greys (search rules) (search rules) c.clamp.ensures.value)

@@ -2,13 +2,12 @@
 use borrow.Author.Tests.{le-leb, lt-leb}
 use Rattle.pyramid.specs.Definitions.Calls.{leaves}
 use Rattle.pyramid.specs.Definitions.Answers.{level_size_answer}
-use Rattle.pyramid.proofs.ShapeAnswers.{shape_accepted}
 use Rattle.pyramid.proofs.shapes.Shape.level_size.Goals as goal
 
 pub returns-then-self-level : goal.returns-then-self-level
 unfolding level_size_answer leaves
-returns-then-self-level c = rw (shape_accepted _ c.args.self.shaped, lt-leb _ _ c.if-self-level.true)
+returns-then-self-level c = rw (c.args.self.shaped, lt-leb _ _ c.if-self-level.true)
 
 pub returns : goal.returns
 unfolding level_size_answer leaves
-returns c = rw (shape_accepted _ c.args.self.shaped, le-leb _ _ c.if-self-level.false, c.columns_at.ensures.0, c.rows_at.ensures.0)
+returns c = rw (c.args.self.shaped, le-leb _ _ c.if-self-level.false, c.columns_at.ensures.0, c.rows_at.ensures.0)
