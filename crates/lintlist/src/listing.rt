@@ -21,12 +21,19 @@ fn print_line<W: Write>(out: &mut W, numbers: &[(&[u8], u16)]) -> io::Result<()>
     out.write_all(b"\n")
 }
 
+// The bits of a percentage, eight digits in one piece.
+fn bits<W: Write>(out: &mut W, held: u32) -> io::Result<()> {
+    let mut digits = [0; 8];
+    write!(&mut &mut digits[..], "{held:08X}")?;
+    out.write_all(&digits)
+}
+
 // A percentage by its bits.
 fn print_reading<W: Write>(out: &mut W, reading: Reading) -> io::Result<()> {
     let held = bale::reading_code(reading).map_or(0, |code| code.number);
     match reading {
         Reading::NotFitted => out.write_all(b"none"),
-        Reading::Percentage(_) => write!(out, "{held:08X}"),
+        Reading::Percentage(_) => bits(out, held),
         Reading::Fault(_) => number(out, b"fault ", held),
     }
 }
