@@ -1,9 +1,9 @@
 -- `pgm::checking::lawful_size` meets its contract: what 16 bits do not hold is too large. Assumes nothing.
-use mathlib.Core.Path.{refl, sym}
+use mathlib.Core.Path.{refl, sym, ◌∙◌}
 use native.Mathlib.Omega.{arith}
 use Rattle.refusals.proofs.Outcomes.{refuses, accepts, none, passed_on}
 use Rattle.refusals.specs.declared.Refusal.TheVariants.{Size}
-use Rattle.pyramid.specs.Definitions.Answers.{deepest_answer}
+use Rattle.pyramid.proofs.ShapeAnswers.{deepest_answer_lem}
 use Rattle.pgm.proofs.Answers.{too_large}
 use Rattle.pgm.proofs.checking.lawful_size.Goals as goal
 
@@ -14,11 +14,9 @@ pub returns-in_default-try_from : goal.returns-in_default-try_from
 returns-in_default-try_from c = refuses _ Size (too_large _ _ (λ r. c.in_default-try_from.ensures (omega (arith, r.1.1))))
 
 pub returns-in_err-deepest_depth : goal.returns-in_err-deepest_depth
-unfolding deepest_answer
 returns-in_err-deepest_depth c =
     rw (← c.in-Ok.ensures.1, ← c.in-Ok-try_from.ensures.1)
-    (passed_on _ _ _ c.from_residual.result _ c.from_residual.ensures.1 c.in_err-deepest_depth.ensures (λ _. refl))
+    (passed_on _ _ _ c.from_residual.result _ c.from_residual.ensures.1 c.in_err-deepest_depth.ensures (λ _. sym (deepest_answer_lem _ _ _ refl)))
 
 pub returns : goal.returns
-unfolding deepest_answer
-returns c = rw (← c.in-Ok.ensures.1, ← c.in-Ok-try_from.ensures.1) (accepts _ (none _ _ (sym c.in_ok-deepest_depth.ensures)))
+returns c = rw (← c.in-Ok.ensures.1, ← c.in-Ok-try_from.ensures.1) (accepts _ (sym (deepest_answer_lem _ _ _ refl) ∙ none _ _ (sym c.in_ok-deepest_depth.ensures)))
