@@ -8,9 +8,10 @@ use test_support::decoding::Form;
 use test_support::reading::rest;
 use test_support::{answers, decoding};
 
-// What a file holds: settings, the kinds and the numbers of two readings, and indices.
+// What a file holds: settings, and the form in which a case says them; the kinds and the numbers of two readings, and indices.
 #[derive(Clone, Copy)]
 pub(crate) struct Held<'a> {
+    pub form: Form,
     pub settings: Settings,
     pub before_drier: Code,
     pub at_press: Code,
@@ -29,6 +30,7 @@ fn code_in(bytes: &[u8]) -> Code {
 pub(crate) fn held_in<'a>(form: Form, said: &[u8], indices: &'a [u8]) -> Held<'a> {
     let codes = rest(said, form.length());
     Held {
+        form,
         settings: form.settings(said),
         before_drier: code_in(codes),
         at_press: code_in(rest(codes, 5)),
@@ -36,13 +38,15 @@ pub(crate) fn held_in<'a>(form: Form, said: &[u8], indices: &'a [u8]) -> Held<'a
     }
 }
 
-// C, R, N, k, black, white and then the bins.
-fn numbers(s: Settings) -> [u16; 13] {
-    let b = s.bins;
-    [
-        s.columns, s.rows, s.depth, s.kernel, s.black, s.white, b[0], b[1], b[2], b[3], b[4], b[5],
-        b[6],
-    ]
+// In the order of the form: C, R, N, k, black, white and then the bins; where the form has no black and white, these are last.
+fn numbers(form: Form, s: Settings) -> [u16; 13] {
+    let [c, r, n, k] = [s.columns, s.rows, s.depth, s.kernel];
+    let [b0, b1, b2, b3, b4, b5, b6] = s.bins;
+    let (black, white) = (s.black, s.white);
+    match form {
+        Form::Short => [c, r, n, k, b0, b1, b2, b3, b4, b5, b6, black, white],
+        Form::Greys => [c, r, n, k, black, white, b0, b1, b2, b3, b4, b5, b6],
+    }
 }
 
 // A float that is at most 100 is no NaN, and has bits.
@@ -61,7 +65,7 @@ pub(crate) fn is_held(reading: Reading, code: Code) -> bool {
 
 // Reading 0 before the drier, reading 1 at the press.
 fn compare_bale(b: Bale, e: Held) -> Option<Finding> {
-    let setting = first_difference(&numbers(b.settings), &numbers(e.settings));
+    let setting = first_difference(&numbers(e.form, b.settings), &numbers(e.form, e.settings));
     let note = b.note;
     let held = [
         is_held(note.before_drier, e.before_drier),

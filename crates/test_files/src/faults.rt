@@ -76,6 +76,7 @@ fn check_set(faults: Faults) -> Option<Finding> {
 }
 
 // The 2,048 sets.
+// Kept beside that of test_pgm: the table, the calls and what is lent differ, and `check_sets` is what they share.
 pub(crate) fn check_all() -> Tally<Finding> {
     check_sets(&FAULTS, 2048, |faults| check_set(faults))
 }

@@ -9,6 +9,7 @@ use crate::{cases, piece_a, writers};
 use bale::Code;
 use pyramid::Settings;
 use refusals::Refusal;
+use test_support::decoding::Form;
 use test_support::reporting::Tally;
 
 // Its indices, two bytes each: level 1 and level 0.
@@ -45,6 +46,7 @@ fn check_pair(black: u8, white: u8, file: &[u8]) -> Option<Finding> {
     };
     let indices = indices();
     let held = Held {
+        form: Form::Greys,
         settings,
         before_drier: Code {
             kind: 1,

@@ -40,7 +40,6 @@ impl fmt::Display for Call {
 #[derive(Clone, Copy)]
 pub(crate) enum Part {
     EndOfVectors,
-    UnknownRefusal,
     Refusal,
     Setting,
     ReadingHeld,
@@ -56,7 +55,6 @@ impl fmt::Display for Part {
     fn fmt<W: fmt::Write>(&self, f: &mut fmt::Formatter<W>) -> fmt::Result {
         f.write_str(match *self {
             Part::EndOfVectors => "end of the vectors",
-            Part::UnknownRefusal => "unknown refusal",
             Part::Refusal => "refusal",
             Part::Setting => "setting",
             Part::ReadingHeld => "reading",

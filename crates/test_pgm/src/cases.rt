@@ -1,6 +1,6 @@
 // The cases of the vectors one after the other.
 use crate::answers::Picture;
-use crate::parts::{Finding, MOST_PIXELS, MOST_PLACES, MOST_SINGLE, Part, cut};
+use crate::parts::{Finding, MOST_PIXELS, MOST_PLACES, MOST_SINGLE, cut};
 use crate::readers::Case;
 use crate::writers::Written;
 use crate::{parts, readers, writers};
@@ -10,21 +10,19 @@ use std::io;
 use std::io::Read;
 use test_support::decoding;
 use test_support::numbered::answer_of;
-use test_support::reading::{check_cases, read_part};
+use test_support::reading::{check_cases, read_exactly, read_part};
 use test_support::reporting::Tally;
 
-// How a case starts: the answer of the readers, or what is found where no refusal has its number; the file's length.
+// How a case starts: the answer of the readers, or nothing where no refusal has its number; the file's length.
 #[derive(Clone, Copy)]
 struct Head {
-    answer: Result<Result<(), Refusal>, Finding>,
+    answer: Option<Result<(), Refusal>>,
     length: usize,
 }
 
 fn head_of(bytes: &[u8]) -> Head {
-    let number = decoding::unsigned16_at(bytes, 0);
-    let unknown = Finding::of_part(Part::UnknownRefusal, usize::from(number));
     Head {
-        answer: answer_of(number, ()).ok_or(unknown),
+        answer: answer_of(decoding::unsigned16_at(bytes, 0), ()),
         length: decoding::unsigned32_at(bytes, 2) as usize,
     }
 }
@@ -41,12 +39,12 @@ fn check_file(size: Dimensions, file: &[u8], more: &[u8], single: &[u8]) -> Opti
     readers::check_read(Case { expected, file }).or(writers::check_written(written, more))
 }
 
-// Reads the single form that a case says.
+// Reads the single form that a case says, also where its file or its picture is too long for the buffers and was not read.
 fn check_single<R: Read>(
     data: &mut R,
     size: Dimensions,
-    file: &[u8],
-    more: &[u8],
+    file: Option<&[u8]>,
+    more: Option<&[u8]>,
 ) -> io::Result<Option<Finding>> {
     let mut length: [u8; 4] = [0; 4];
     let mut single: [u8; MOST_SINGLE] = [0; MOST_SINGLE];
@@ -54,7 +52,8 @@ fn check_single<R: Read>(
         return Ok(Some(cut()));
     };
     let n = decoding::unsigned32_at(length, 0) as usize;
-    let Some(single) = read_part(data, &mut single, n)? else {
+    let single = read_part(data, &mut single, n)?;
+    let (Some(file), Some(more), Some(single)) = (file, more, single) else {
         return Ok(Some(cut()));
     };
     Ok(check_file(size, file, more, single))
@@ -64,18 +63,17 @@ fn check_single<R: Read>(
 fn check_picture<R: Read>(
     data: &mut R,
     size: Dimensions,
-    file: &[u8],
+    file: Option<&[u8]>,
 ) -> io::Result<Option<Finding>> {
     let mut pixels: [u8; MOST_PLACES] = [0; MOST_PLACES];
     let n = usize::from(size.columns) * usize::from(size.rows);
-    if read_part(data, &mut pixels, n)?.is_none() {
-        return Ok(Some(cut()));
-    }
-    check_single(data, size, file, &pixels[..n.min(MOST_PIXELS) + 1])
+    let is_read = read_exactly(data, &mut pixels, n)?;
+    let more = is_read.then_some(&pixels[..n.min(MOST_PIXELS) + 1]);
+    check_single(data, size, file, more)
 }
 
 // Reads what the case says of a file that is accepted: its sides, its picture and its single form.
-fn check_accepted<R: Read>(data: &mut R, file: &[u8]) -> io::Result<Option<Finding>> {
+fn check_accepted<R: Read>(data: &mut R, file: Option<&[u8]>) -> io::Result<Option<Finding>> {
     let mut sides: [u8; 4] = [0; 4];
     let Some(sides) = read_part(data, &mut sides, 4)? else {
         return Ok(Some(cut()));
@@ -93,16 +91,31 @@ const MOST: usize = 65551;
 // Reads the case that starts so. Of a file that is refused it says nothing more.
 fn check_case<R: Read>(data: &mut R, h: Head) -> io::Result<Option<Finding>> {
     let mut file: [u8; MOST] = [0; MOST];
-    let Some(file) = read_part(data, &mut file, h.length)? else {
-        return Ok(Some(cut()));
-    };
-    match h.answer {
-        Ok(Ok(())) => check_accepted(data, file),
-        Ok(Err(refusal)) => {
+    let file = read_part(data, &mut file, h.length)?;
+    match (h.answer, file) {
+        (Some(Ok(())), file) => check_accepted(data, file),
+        (_, None) => Ok(Some(cut())),
+        (Some(Err(refusal)), Some(file)) => {
             let expected = Err(refusal);
             Ok(readers::check_read(Case { expected, file }))
         }
-        Err(unknown) => Ok(Some(unknown)),
+        (None, Some(file)) => Ok(Some(readers::other_answer(file))),
+    }
+}
+
+// Reads the case that starts with a byte. Where its start is cut, it counts among those of the answer that its bytes make, with 0 for each
+// that is not there.
+fn check_next<R: Read>(
+    data: &mut R,
+    first: u8,
+) -> io::Result<(Option<Result<(), Refusal>>, Option<Finding>)> {
+    let mut start: [u8; 6] = [first, 0, 0, 0, 0, 0];
+    let is_read = read_exactly(data, &mut start[1..], 5)?;
+    let head = head_of(&start);
+    if is_read {
+        Ok((head.answer, check_case(data, head)?))
+    } else {
+        Ok((head.answer, Some(cut())))
     }
 }
 
@@ -144,18 +157,15 @@ impl Found {
     }
 }
 
-// All cases to the end of the vectors.
+// All cases to the end of the vectors. A case is told by its first byte, which is there or not, and never cut.
 pub(crate) fn check_all<R: Read>(data: &mut R) -> io::Result<Found> {
     let mut found = Found::new();
-    let mut start: [u8; 6] = [0; 6];
+    let mut first: [u8; 1] = [0];
     check_cases(
         data,
-        &mut start,
+        &mut first,
         (None, Some(cut())),
-        |data, start| {
-            let head = head_of(start);
-            Ok((head.answer.ok(), check_case(data, head)?))
-        },
+        |data, first| check_next(data, decoding::byte_at(first, 0)),
         |(answer, finding)| found.count(answer, finding),
     )?;
     Ok(found)

@@ -92,6 +92,7 @@ fn check_set(faults: Faults) -> Option<Finding> {
 }
 
 // The 32 sets.
+// Kept beside that of test_files: the table, the calls and what is lent differ, and `check_sets` is what they share.
 pub(crate) fn check_all() -> Tally<Finding> {
     check_sets(&FAULTS, 32, |faults| check_set(faults))
 }

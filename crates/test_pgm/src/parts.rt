@@ -44,7 +44,6 @@ impl fmt::Display for Call {
 #[derive(Clone, Copy)]
 pub(crate) enum Part {
     EndOfVectors,
-    UnknownRefusal,
     Refusal,
     Columns,
     Rows,
@@ -59,7 +58,6 @@ impl fmt::Display for Part {
     fn fmt<W: fmt::Write>(&self, f: &mut fmt::Formatter<W>) -> fmt::Result {
         f.write_str(match *self {
             Part::EndOfVectors => "end of the vectors",
-            Part::UnknownRefusal => "unknown refusal",
             Part::Refusal => "refusal",
             Part::Columns => "columns",
             Part::Rows => "rows",

@@ -2,7 +2,7 @@
 use crate::answers;
 use crate::answers::Picture;
 use crate::parts::{Call, Finding, MOST_PLACES, Part};
-use refusals::Refusal;
+use refusals::{Refusal, answer_number};
 use test_support::comparing::first_difference;
 use test_support::fillers::{byte_filler, fill, first_changed};
 use test_support::reporting::of_call;
@@ -47,6 +47,13 @@ pub(crate) fn check_places(call: Call, c: Case, places: usize) -> Option<Finding
 pub(crate) fn check_checking(c: Case) -> Option<Finding> {
     let got = pgm::check_pgm(c.file);
     of_call(Call::Checking, answers::compare(got, c.expected))
+}
+
+// That reader's answer, where the case says a number that no refusal has: it is another.
+// Kept: test_files' function of this name asks another reader and names a call and a part of its own.
+pub(crate) fn other_answer(file: &[u8]) -> Finding {
+    let number = usize::from(answer_number(pgm::check_pgm(file)));
+    Finding::of_part(Part::Refusal, number).of_call(Call::Checking)
 }
 
 // The second reader with so many places, or one more or fewer.

@@ -1,5 +1,5 @@
 // The cases of a file one after the other.
-use crate::parts::{Finding, Part, cut};
+use crate::parts::{Finding, cut};
 use crate::shape::Shape;
 use std::io;
 use std::io::Read;
@@ -7,9 +7,10 @@ use test_support::decoding::Form;
 use test_support::reading::check_cases;
 use test_support::reporting::Tally;
 
-// All cases to the end of the file: each starts with its settings, and the rest of it is read by the check of the file's cases.
+// All cases to the end of the file: each starts with its settings, and the rest of it is read by the check of the file's cases, to the
+// shape that the settings have, if they have one.
 // Kept: what it shares with test_files is `check_cases`; how long a start is, what a cut case is found to be, and the check differ.
-pub(crate) fn check_all<R: Read, C: Fn(&mut R, Shape) -> io::Result<Option<Finding>>>(
+pub(crate) fn check_all<R: Read, C: Fn(&mut R, Option<Shape>) -> io::Result<Option<Finding>>>(
     data: &mut R,
     form: Form,
     check: C,
@@ -22,10 +23,7 @@ pub(crate) fn check_all<R: Read, C: Fn(&mut R, Shape) -> io::Result<Option<Findi
         data,
         &mut head[..form.length()],
         Some(cut()),
-        |data, head| match Shape::of(form.settings(head)) {
-            Some(z) => check(data, z),
-            None => Ok(Some(Finding::of_part(Part::Settings, 0))),
-        },
+        |data, head| check(data, Shape::of(form.settings(head))),
         |found| tally.count(found),
     )?;
     Ok(tally)

@@ -9,6 +9,7 @@ mod pyramid_cases;
 mod rebuilding;
 mod shape;
 
+use parts::no_sizes;
 use pyramid::Manner;
 use std::{fs, io};
 use test_support::decoding::Form;
@@ -46,9 +47,11 @@ fn report(rt: &HostRuntime, path: &str, form: Form, kind: Kind) -> io::Result<()
     let Ok(mut data) = fs::open(rt, path) else {
         return println!(rt; "{path}: cannot be opened");
     };
-    let tally = cases::check_all(&mut data, form, |data, z| match kind {
-        Kind::Coding(manner) => pyramid_cases::check_read(data, z, manner),
-        Kind::Rebuilding => levels_cases::check_read(data, z),
+    let tally = cases::check_all(&mut data, form, |data, shape| match (kind, shape) {
+        (Kind::Coding(manner), Some(z)) => pyramid_cases::check_read(data, z, manner),
+        (Kind::Rebuilding, Some(z)) => levels_cases::check_read(data, z),
+        (Kind::Coding(_), None) => Ok(Some(no_sizes())),
+        (Kind::Rebuilding, None) => levels_cases::read_over(data, form),
     })?;
     reporting::print_cases(&mut rt.stdout(), path, &tally)?;
     Ok(())

@@ -3,7 +3,7 @@
 // 16 bits. Both calls are accepted.
 ghost use Rattle.std.specs.Prelude.{◌≤◌};
 
-use crate::parts::{Call, Finding, Part, cut};
+use crate::parts::{Finding, Part, cut};
 use crate::rebuilding::Case;
 use crate::shape::{MOST_BYTES, Shape};
 use crate::{coding, rebuilding};
@@ -14,16 +14,12 @@ use test_support::answers::compare;
 use test_support::comparing::first_other;
 use test_support::decoding;
 use test_support::reading::{read_part, rest};
-use test_support::reporting::of_call;
 use test_support::sizes::compare_size;
 
 // The number of nodes.
 fn check_nodes(z: Shape) -> Option<Finding> {
     let got = pyramid::total_nodes(z.settings).map(|nodes| usize::from(nodes));
-    of_call(
-        Call::Nodes,
-        compare_size(Part::Refusal, Part::Nodes, got, Ok(z.nodes)),
-    )
+    compare_size(Part::NodesAnswer, Part::Nodes, got, Ok(z.nodes))
 }
 
 // The bound of a slot: the bytes hold level N first, and the slots above the depth hold 0.
@@ -43,17 +39,13 @@ fn compare_bounds(z: Shape, bytes: &[u8], slots: [u16; 7]) -> Option<Finding> {
 }
 
 fn check_bounds(z: Shape, manner: Manner, bytes: &[u8]) -> Option<Finding> {
-    let (call, got) = match manner {
-        Manner::OpenLoop => (Call::Bounds, pyramid::level_bounds(z.settings)),
-        Manner::ClosedLoop => (
-            Call::ClosedLoopBounds,
-            pyramid::closed_loop_bounds(z.settings),
-        ),
+    let got = match manner {
+        Manner::OpenLoop => pyramid::level_bounds(z.settings),
+        Manner::ClosedLoop => pyramid::closed_loop_bounds(z.settings),
     };
-    let found = compare(Part::Refusal, got, Ok(()), |slots, ()| {
+    compare(Part::BoundsAnswer(manner), got, Ok(()), |slots, ()| {
         compare_bounds(z, bytes, slots)
-    });
-    of_call(call, found)
+    })
 }
 
 // Codes the picture of a case, and rebuilds it. Where the case has no averages, the values that coding leaves are those of the rebuilding.
@@ -64,7 +56,7 @@ fn check_calls(z: Shape, manner: Manner, case: &[u8]) -> Option<Finding> {
     };
     let rebuilt = Case {
         shape: z,
-        expected: Ok(()),
+        expected: Some(Ok(())),
         wide,
         bytes: rest(case, values),
     };
