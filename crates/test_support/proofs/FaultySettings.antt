@@ -1,5 +1,5 @@
 -- Settings with faults put in break exactly the rules of these faults, so that no set of broken rules is tested by less or by more than it
--- names: every set, in every variant, on the two bases that the programs use. Assumes nothing.
+-- names: every set, in every variant, on the three bases that the programs use. Assumes nothing.
 use mathlib.Core.Bool.{Bool, true, false, cond, ◌&&◌}
 use mathlib.Core.List.{List, [], ◌∷◌, ◌++◌}
 use Prim.Native.Nat.{ℕ}
@@ -40,7 +40,9 @@ Exact s = T (all_below 128 (λ set. all_below 4 (λ n. same (broken (with_faults
 abbrev base : ℕ → ℕ → ℕ → ℕ → ℕ → List ℕ → Settings
 base columns rows depth black white bins = record { columns = columns; rows = rows; depth = depth; kernel = 4; black = black; white = white; bins = bins }
 
--- 9 by 5, N = 2, black 16 and white 235, of test_calls; piece A, 3 by 3, N = 1, black 0 and white 255, of test_files
+-- 9 by 5, N = 2, black 16 and white 235, of test_calls; piece A, 3 by 3, N = 1, black 0 and white 255, of test_files; 5 by 9, N = 2, black 16
+-- and white 235, of test_pixels
 pub faults_exact : Exact (base 9 5 2 16 235 (3 ∷ 2 ∷ 1 ∷ 0 ∷ 0 ∷ 0 ∷ 0 ∷ [])) × Exact (base 3 3 1 0 255 (10 ∷ 4 ∷ 0 ∷ 0 ∷ 0 ∷ 0 ∷ 0 ∷ []))
+    × Exact (base 5 9 2 16 235 (3 ∷ 2 ∷ 1 ∷ 0 ∷ 0 ∷ 0 ∷ 0 ∷ []))
 unfolding all_below side_ok size_ok depth_ok divides kernel_ok black_white_ok slot_ok bins_ok
-faults_exact = (tt, tt)
+faults_exact = (tt, tt, tt)
