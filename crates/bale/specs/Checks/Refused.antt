@@ -1,5 +1,5 @@
--- What a refusal leaves (document 01, "Who can cause which refusal"): lent memory is unchanged, and further fields of an answer hold 0 in the
--- numbers and not fitted in the readings. Assumes nothing.
+-- What a refusal leaves (document 01, "Who can cause which refusal"): lent memory is unchanged, and what the definitions have beside its
+-- number is 0 in the numbers and not fitted in the readings. Assumes nothing.
 use Rattle.std.specs.Prelude.{◌≡◌, List, ℕ, ℤ, replicate}
 use Rattle.pyramid.specs.declared.Settings.{Settings}
 use Rattle.pyramid.specs.Checks.Refused.{Refused}

@@ -12,7 +12,8 @@ use Rattle.bale.specs.Definitions.Readings.{note_ok}
 use Rattle.bale.specs.Definitions.Files.{file_of, file_length}
 use Rattle.bale.specs.Definitions.Reader.{settings_in, note_in, levels_in, shape_section_refusal, body_refusal}
 
--- what a call answers: a refusal's number, and values, which are 0 and not fitted where it is not 0
+-- a refusal's number, or 0 and the values that a call then answers; beside another number they are 0 and not fitted, and the call answers its
+-- refusal alone
 pub record SizeAnswer : Type 0 where
   pub refusal : ℕ
   pub size : ℕ

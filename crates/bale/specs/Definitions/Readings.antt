@@ -25,7 +25,7 @@ HeldReading NotFitted = Unit {0}
 HeldReading (Percentage x) = T (fits binary32 x)
 HeldReading (Fault code) = code < 2 * 0x8000_0000
 
--- what a call answers: refusal 4 or 0, and values, which are 0 and not fitted where it is 4
+-- refusal 4, or 0 and the values that a call then answers; beside 4 they are 0 and not fitted, and the call answers its refusal alone
 pub record CodeAnswer : Type 0 where
   pub refusal : ℕ
   pub kind : ℕ

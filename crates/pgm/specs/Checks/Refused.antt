@@ -1,5 +1,5 @@
--- What a refusal leaves (document 01, "Who can cause which refusal"; document 02, P2): lent memory is unchanged, and further fields of an
--- answer hold 0. Assumes nothing.
+-- What a refusal leaves (document 01, "Who can cause which refusal"; document 02, P2): lent memory is unchanged, and what the
+-- definitions have beside its number is 0. Assumes nothing.
 use Rattle.std.specs.Prelude.{◌≡◌, List, ℕ}
 use Rattle.pyramid.specs.Checks.Refused.{Refused}
 use Rattle.pgm.specs.Definitions.Calls.{PictureSizeAnswer, size_answer, write_pgm, check_pgm, read_pgm}

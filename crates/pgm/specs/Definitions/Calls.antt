@@ -7,7 +7,7 @@ use Rattle.pyramid.specs.declared.Dimensions.{Dimensions}
 use Rattle.pgm.specs.Definitions.Header.{header_ok, columns_in, rows_in, greatest_in, pixels_place}
 use Rattle.pgm.specs.Definitions.Files.{pgm_of, pgm_length}
 
--- ---- what a call answers: a refusal's number, and numbers, which are 0 where it is not 0
+-- ---- a refusal's number, or 0 and the numbers that a call then answers; beside another number they are 0, and the call answers its refusal alone
 
 pub record PictureSizeAnswer : Type 0 where
   pub refusal : ℕ

@@ -1,5 +1,5 @@
--- What a refusal leaves (document 01, "Who can cause which refusal"): the answer is the number alone, lent memory is unchanged, and further
--- fields of an answer hold 0. Assumes nothing.
+-- What a refusal leaves (document 01, "Who can cause which refusal"): the answer is the number alone, lent memory is unchanged, and what
+-- the definitions have beside it is 0. Assumes nothing.
 use Rattle.std.specs.Prelude.{◌≡◌, ◌≢◌, List, ℕ, ℤ, replicate}
 use Rattle.pyramid.specs.declared.Settings.{Settings}
 use Rattle.pyramid.specs.declared.Manner.{Manner}
