@@ -68,18 +68,17 @@ def apart(parts, folders=('Inner', 'Checks')):
     return parts[0] == 'proofs' or parts[1] in folders
 
 
-def public_types(source, opened, passed_on):
-    """The types that another crate can name, each with its declaration and its file's text."""
-    for path in sorted(source.rglob('*.rt')):
-        text = re.sub(r'//[^\n]*', '', text_of(path))
-        for found in re.finditer(r'(?m)^pub (?:struct|enum) (\w+)[^\n]*\{(.*?)^\}', text, re.S):
-            if path.name == 'lib.rt' or path.stem in opened or found.group(1) in passed_on:
-                yield found.group(1), found.group(2), text
+TYPE = re.compile(r'(?m)^pub (?:struct|enum) (\w+)(.*?)(?:^\}|;$)', re.S)
+FUNCTION = re.compile(r'(?m)^pub (?:extern "C" )?fn (\w+)(.*?)^\{', re.S)
+METHODS = re.compile(r'(?m)^impl(?:<[^{]*?>)? (\w+)(?:<[^{]*?>)?\s*\{(.*?)^\}', re.S)
+METHOD = re.compile(r'(?m)^    pub fn (\w+)(.*?)^    \{', re.S)
+TRAIT = re.compile(r'(?m)^impl(?:<[^{]*?>)? ([^{]*? for [^{]*?)\s*\{(.*?)^\}', re.S)
 
 
 def facts(declaration):
-    """What a type, or a trait that a type has, says by ghost fields and laws."""
-    return ' '.join(re.findall(r'\bghost \w+\s*[:=] \{.*?\}(?=[,;]\n)', declaration, re.S))
+    """What a type, or a trait that a type has, says by ghost fields and laws: all but what is brought in, and but its functions."""
+    said = re.sub(r'(?ms)^    (?:pub )?fn .*?^    \}', '', re.sub(r'\bghost use [^;]*;', '', declaration))
+    return said if re.search(r'\bghost \w+\s*[:=]', said) else ''
 
 
 def promises(crate):
@@ -91,19 +90,23 @@ def promises(crate):
     root = text_of(source / 'lib.rt')
     passed_on = {name for names in re.findall(r'pub use \w+::\{?([\w, ]+)\}?;', root) for name in names.split(', ')}
     opened = set(re.findall(r'(?m)^pub mod (\w+);', root))
-    types = list(public_types(source, opened, passed_on))
-    named = {name for name, _, _ in types}
-    yield from ((name, facts(inside), text) for name, inside, text in types if facts(inside))
-    for path in sorted(source.rglob('*.rt')):
-        text = re.sub(r'//[^\n]*', '', text_of(path))
-        for found in re.finditer(r'(?m)^pub (?:extern "C" )?fn (\w+)(.*?)^\{', text, re.S):
-            if path.name == 'lib.rt' or path.stem in opened or found.group(1) in passed_on:
+    texts = [(path, re.sub(r'//[^\n]*', '', text_of(path))) for path in sorted(source.rglob('*.rt'))]
+
+    def seen(path, name):
+        return path.name == 'lib.rt' or path.stem in opened or name in passed_on
+
+    types = [(found, text) for path, text in texts for found in TYPE.finditer(text) if seen(path, found.group(1))]
+    named = {found.group(1) for found, _ in types}
+    yield from ((found.group(1), facts(found.group(2)), text) for found, text in types if facts(found.group(2)))
+    for path, text in texts:
+        for found in FUNCTION.finditer(text):
+            if seen(path, found.group(1)):
                 yield found.group(1), found.group(2), text
-        for block in re.finditer(r'(?m)^impl (\w+) \{(.*?)^\}', text, re.S):
-            if path.name == 'lib.rt' or path.stem in opened or block.group(1) in passed_on:
-                for found in re.finditer(r'(?m)^    pub fn (\w+)(.*?)^    \{', block.group(2), re.S):
+        for block in METHODS.finditer(text):
+            if seen(path, block.group(1)):
+                for found in METHOD.finditer(block.group(2)):
                     yield '%s::%s' % (block.group(1), found.group(1)), found.group(2), text
-        for block in re.finditer(r'(?m)^impl ([\w<>]+ for \w+) \{(.*?)^\}', text, re.S):
+        for block in TRAIT.finditer(text):
             if named & set(re.findall(r'\w+', block.group(1))):
                 yield block.group(1), facts(block.group(2)), text
 
