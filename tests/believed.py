@@ -69,16 +69,16 @@ def apart(parts, folders=('Inner', 'Checks')):
 
 
 TYPE = re.compile(r'(?m)^pub (?:struct|enum) (\w+)(.*?)(?:^\}|;$)', re.S)
-FUNCTION = re.compile(r'(?m)^pub (?:extern "C" )?fn (\w+)(.*?)^\{', re.S)
+FUNCTION = re.compile(r'(?m)^pub (?:extern "C" )?fn (\w+)(.*?)(?:^\{$|[^\n]\{$)', re.S)
 METHODS = re.compile(r'(?m)^impl(?:<[^{]*?>)? (\w+)(?:<[^{]*?>)?\s*\{(.*?)^\}', re.S)
-METHOD = re.compile(r'(?m)^    pub fn (\w+)(.*?)^    \{', re.S)
+METHOD = re.compile(r'(?m)^    pub fn (\w+)(.*?)(?:^    \{$|[^\n ]\s*\{$)', re.S)
 TRAIT = re.compile(r'(?m)^impl(?:<[^{]*?>)? ([^{]*? for [^{]*?)\s*\{(.*?)^\}', re.S)
 
 
 def facts(declaration):
     """What a type, or a trait that a type has, says by ghost fields and laws: all but what is brought in, and but its functions."""
     said = re.sub(r'(?ms)^    (?:pub )?fn .*?^    \}', '', re.sub(r'\bghost use [^;]*;', '', declaration))
-    return said if re.search(r'\bghost \w+\s*[:=]', said) else ''
+    return said if re.search(r'\bghost (?!Value\b|view\b|inverse\b)\w+\s*[:=]', said) else ''
 
 
 def promises(crate):
@@ -124,10 +124,11 @@ def closure(start):
 
 def check_promises(crates):
     """No promise uses a word that stands apart; answers the files that promises use."""
-    used, counted = [], 0
+    used, counted, said = [], 0, set()
     for crate in crates:
         for name, contract, text in promises(crate):
             counted += 1
+            said |= set(re.findall(r'\w+', name)) if 'ghost' in contract else set()
             for other, parts, names in imports(text):
                 named = [n for n in names if re.search(r'(?<![\w-])%s(?![\w-])' % re.escape(n), contract)]
                 if named and apart(parts):
@@ -135,6 +136,8 @@ def check_promises(crates):
                 elif named:
                     used.append(file_of(other, parts))
             check('ensures' in contract or 'ghost' in contract, '%s::%s promises nothing' % (crate, name))
+    for name in re.findall(r'(?m)^    \w+::(\w+)::new.* by their type', text_of(ROOT / 'README.md')):
+        check(name in said, '%s says nothing by its type' % name)
     print('%d promises of public functions, types and traits' % counted)
     return used
 
