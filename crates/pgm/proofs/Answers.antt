@@ -15,6 +15,8 @@ use Rattle.refusals.proofs.Outcomes.{refuses, accepts}
 use Rattle.pyramid.specs.declared.Dimensions.{Dimensions}
 use Rattle.pyramid.specs.Definitions.Settings.{size_ok}
 use Rattle.pyramid.specs.Definitions.Refusals.{unless, first}
+use Rattle.pyramid.specs.Definitions.Answers.{deepest_answer}
+use Rattle.pyramid.proofs.ShapeAnswers.{deepest_answer_lem}
 use Rattle.pyramid.specs.Checks.Conditions.{SideRule}
 use Rattle.pyramid.proofs.Refusals.{first_nil, first_stop, unless_none, unless_fails, answers_skip, answers_fails, answers_passes, leaves_new, leaves_kept}
 use Rattle.pyramid.proofs.RuleTests.{size_decides}
@@ -40,6 +42,13 @@ sized columns rows t =
 
 pub size_accepted : (columns rows : ℕ) → unless (size_ok columns rows) 1 ≡ 0 → Sized columns rows
 size_accepted columns rows none = sized columns rows (unless_none (size_ok columns rows) 0 none)
+
+-- number 1 is that of the deepest depth, which is refused on size alone
+pub depth_refused : (columns rows : ℕ) → unless (size_ok columns rows) 1 ≡ (deepest_answer columns rows).refusal
+depth_refused columns rows = sym (deepest_answer_lem columns rows (deepest_answer columns rows) refl)
+
+pub depth_accepted : (columns rows : ℕ) → (deepest_answer columns rows).refusal ≡ 0 → unless (size_ok columns rows) 1 ≡ 0
+depth_accepted columns rows none = depth_refused columns rows ∙ none
 
 pub too_large : (columns rows : ℕ) → (SideRule columns × SideRule rows → ⊥) → 1 ≡ unless (size_ok columns rows) 1
 too_large columns rows refused = sym (unless_fails 1 (by_test (size_ok columns rows) (λ t. refused ((size_decides columns rows).0 t))))

@@ -1,5 +1,5 @@
 -- Laws of chains of rules, what an accepted call says of its arguments, and what is left in a buffer. Assumes nothing.
-use mathlib.Core.Path.{◌≡◌, refl, sym, ◌∙◌}
+use mathlib.Core.Path.{◌≡◌, refl, sym, subst, ◌∙◌}
 use mathlib.Core.Logic.{◌≢◌, ◌⊎◌, inl, inr}
 use mathlib.Core.Bool.{Bool, true, false}
 use mathlib.Core.List.{List, [], ◌∷◌}
@@ -9,6 +9,8 @@ use borrow.Author.Tests.{eq-eqb, le-leb}
 use lib.Dec.{T, leb, eqb, leb→le, eqb→eq}
 use lib.IntN.{ℤ}
 use lib.ListN.{length}
+use mir.Syntax.{w8}
+use mir.Val.{Fits}
 use Rattle.std.specs.Prelude.{Ok}
 use Rattle.refusals.specs.Definitions.Outcomes.{outcome}
 use Rattle.refusals.proofs.Outcomes.{none, value-is}
@@ -167,6 +169,16 @@ module _ (s : Settings) where
   accepted_settings e =
       let (shape, e₃) = first_none _ _ e in
       lawful s (accepted_shape shape) (unless_none (bins_ok s) 2 (first_none _ _ e₃).0)
+
+  -- the same where the settings are seen as others
+  pub accepted_seen : {t : Settings} → t ≡ s → settings_refusal t ≡ 0 → Lawful s
+  accepted_seen e none = accepted_settings (subst (λ t. settings_refusal t ≡ 0) e none)
+
+  -- 8 bits hold black and white
+  pub greys_fit : settings_refusal s ≡ 0 → Fits w8 s.black × Fits w8 s.white
+  greys_fit e =
+      let greys = (accepted_settings e).shaped.greys in
+      (record { fits = omega (arith, greys.below, greys.most) }, record { fits = omega (arith, greys.most) })
 
   -- the settings' refusal is the shape's, and then that of the bins
   pub settings_parts : settings_refusal s ≡ 0 → (shape_refusal s ≡ 0) × T (bins_ok s)

@@ -3,8 +3,7 @@ use mathlib.Core.Path.{refl, sym, ◌∙◌}
 use native.Mathlib.Omega.{arith}
 use Rattle.refusals.proofs.Outcomes.{refuses, accepts, none, passed_on}
 use Rattle.refusals.specs.declared.Refusal.TheVariants.{Size}
-use Rattle.pyramid.proofs.ShapeAnswers.{deepest_answer_lem}
-use Rattle.pgm.proofs.Answers.{too_large}
+use Rattle.pgm.proofs.Answers.{depth_refused, depth_accepted, too_large}
 use Rattle.pgm.proofs.checking.lawful_size.Goals as goal
 
 pub returns-in_default : goal.returns-in_default
@@ -16,7 +15,7 @@ returns-in_default-try_from c = refuses _ Size (too_large _ _ (λ r. c.in_defaul
 pub returns-in_err-deepest_depth : goal.returns-in_err-deepest_depth
 returns-in_err-deepest_depth c =
     rw (← c.in-Ok.ensures.1, ← c.in-Ok-try_from.ensures.1)
-    (passed_on _ _ _ c.from_residual.result _ c.from_residual.ensures.1 c.in_err-deepest_depth.ensures (λ _. sym (deepest_answer_lem _ _ _ refl)))
+    (passed_on _ _ _ c.from_residual.result _ c.from_residual.ensures.1 c.in_err-deepest_depth.ensures (λ _. depth_refused _ _))
 
 pub returns : goal.returns
-returns c = rw (← c.in-Ok.ensures.1, ← c.in-Ok-try_from.ensures.1) (accepts _ (sym (deepest_answer_lem _ _ _ refl) ∙ none _ _ (sym c.in_ok-deepest_depth.ensures)))
+returns c = rw (← c.in-Ok.ensures.1, ← c.in-Ok-try_from.ensures.1) (accepts _ (depth_accepted _ _ (none _ _ (sym c.in_ok-deepest_depth.ensures))))

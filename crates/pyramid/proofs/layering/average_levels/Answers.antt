@@ -1,11 +1,10 @@
 -- `pyramid::layering::average_levels` meets its contract: each turn makes the averages of one level more. Assumes nothing.
-use Rattle.std.proofs.Common.{◌≡◌, ◌<◌, suc, refl, ap, subst, ◌∙◌, take, drop, arith}
+use Rattle.std.proofs.Common.{◌≡◌, ◌<◌, suc, refl, ap, ◌∙◌, take, drop, arith}
 use Rattle.pyramid.specs.declared.Settings.{Settings}
 use Rattle.pyramid.specs.Definitions.Sizes.{columns_at, rows_at, nodes_at}
 use Rattle.pyramid.specs.Definitions.Buffers.{start}
 use Rattle.pyramid.specs.Inner.Lawful.{Lawful}
-use Rattle.pyramid.specs.Definitions.Refusals.{settings_refusal}
-use Rattle.pyramid.proofs.Refusals.{accepted_settings}
+use Rattle.pyramid.proofs.Refusals.{accepted_seen}
 use Rattle.pyramid.proofs.AverageLevels.{Averaged, averaged_first, averaged_last, turn_cut, turn_after, turn_up, turn_reducible, turn_next}
 use Rattle.pyramid.proofs.layering.average_levels.Goals as goal
 use Rattle.pyramid.proofs.layering.average_levels.Goals.{After-lawful, After-start, After-start-start, After-raster}
@@ -16,20 +15,17 @@ loop-l-init c law long = averaged_first c.args.lawful law c.args.work.now long
 depth_is : {t s : Settings} → t ≡ s → t.depth ≡ s.depth
 depth_is e = ap (λ (s : Settings). s.depth) e
 
-law_of : {t s : Settings} → t ≡ s → settings_refusal t ≡ 0 → Lawful s
-law_of e none = accepted_settings _ (subst (λ s. settings_refusal s ≡ 0) e none)
-
 pub split_at_mut-before-requires : goal.split_at_mut-before-requires
 split_at_mut-before-requires c =
     let s = c.args.lawful in
-    let law = law_of c.lawful.view_is c.lawful.invariant in
+    let law = accepted_seen _ c.lawful.view_is c.lawful.invariant in
     let mid : c.start.result ≡ start s c.loop-l.l = c.start.ensures.0 ∙ rw (c.level-level.ensures.0, c.level-level.ensures.1) in
     turn_cut s law c.args.work.now c.requires.long (c.loop-l.invariant law c.requires.long) (omega (arith, c.loop-l-test.true, depth_is c.lawful.view_is)) mid refl refl refl
 
 -- once it is cut before the level
 module _ (m : After-start-start) where
   law : Lawful m.args.lawful
-  law = law_of m.lawful.view_is m.lawful.invariant
+  law = accepted_seen _ m.lawful.view_is m.lawful.invariant
 
   so_far : Averaged m.args.lawful law m.args.work.now m.requires.long m.loop-l.work m.loop-l.l
   so_far = m.loop-l.invariant law m.requires.long
@@ -91,5 +87,5 @@ loop-l-preserved c law' long =
 
 pub returns : goal.returns
 returns c =
-    let law = law_of c.lawful.view_is c.lawful.invariant in
+    let law = accepted_seen _ c.lawful.view_is c.lawful.invariant in
     averaged_last c.args.lawful law c.args.work.now c.requires.long (c.loop-l.invariant law c.requires.long) (omega (arith, c.loop-l-test.false, depth_is c.lawful.view_is))

@@ -1,8 +1,7 @@
 -- `pyramid::layering::code_levels` meets its contract: each turn codes one level more, downward. Assumes nothing.
-use Rattle.std.proofs.Common.{◌≡◌, ap, subst, ◌+◌, ◌≤◌, arith}
+use Rattle.std.proofs.Common.{◌≡◌, ap, ◌+◌, ◌≤◌, arith}
 use Rattle.pyramid.specs.declared.Settings.{Settings}
-use Rattle.pyramid.specs.Definitions.Refusals.{settings_refusal}
-use Rattle.pyramid.proofs.Refusals.{accepted_settings}
+use Rattle.pyramid.proofs.Refusals.{accepted_seen}
 use Rattle.pyramid.specs.Definitions.Buffers.{start}
 use Rattle.pyramid.specs.Definitions.Sizes.{nodes_at}
 use Rattle.pyramid.proofs.CodeLevels.{Codable, Coding, coding-first, level_ready, level_done, coding-next, coding-last}
@@ -10,7 +9,7 @@ use Rattle.pyramid.proofs.layering.code_levels.Goals as goal
 use Rattle.pyramid.proofs.layering.code_levels.Goals.{After-lawful, After-code_level}
 
 given : (t : After-lawful) → Codable t.args.lawful t.args.manner t.args.levels.now t.args.work.now
-given t = record { law = accepted_settings _ (subst (λ s. settings_refusal s ≡ 0) t.lawful.view_is t.lawful.invariant); filled = t.requires.lengths.0; long = t.requires.lengths.1; ranges = t.requires.coding_ranges }
+given t = record { law = accepted_seen _ t.lawful.view_is t.lawful.invariant; filled = t.requires.lengths.0; long = t.requires.lengths.1; ranges = t.requires.coding_ranges }
 
 depth_is : (c : After-lawful) → c.lawful.inside.settings.depth ≡ c.args.lawful.depth
 depth_is c = ap (λ (s : Settings). s.depth) c.lawful.view_is

@@ -1,14 +1,13 @@
 -- `pyramid::layering::value_levels` meets its contract: each turn rebuilds one level more, downward. Assumes nothing.
-use Rattle.std.proofs.Common.{◌≡◌, ap, subst, arith}
+use Rattle.std.proofs.Common.{◌≡◌, ap, arith}
 use Rattle.pyramid.specs.declared.Settings.{Settings}
-use Rattle.pyramid.specs.Definitions.Refusals.{settings_refusal}
-use Rattle.pyramid.proofs.Refusals.{accepted_settings}
+use Rattle.pyramid.proofs.Refusals.{accepted_seen}
 use Rattle.pyramid.proofs.ValueLevels.{Rebuildable, rebuilding-first, level_ready, level_done, rebuilding-next, rebuilding-last}
 use Rattle.pyramid.proofs.layering.value_levels.Goals as goal
 use Rattle.pyramid.proofs.layering.value_levels.Goals.{After-lawful}
 
 given : (t : After-lawful) → Rebuildable t.args.lawful t.args.levels.now t.args.work.now
-given t = record { law = accepted_settings _ (subst (λ s. settings_refusal s ≡ 0) t.lawful.view_is t.lawful.invariant); filled = t.requires.lengths.0; long = t.requires.lengths.1; ranges = t.requires.rebuilding_ranges }
+given t = record { law = accepted_seen _ t.lawful.view_is t.lawful.invariant; filled = t.requires.lengths.0; long = t.requires.lengths.1; ranges = t.requires.rebuilding_ranges }
 
 depth_is : (c : After-lawful) → c.lawful.inside.settings.depth ≡ c.args.lawful.depth
 depth_is c = ap (λ (s : Settings). s.depth) c.lawful.view_is

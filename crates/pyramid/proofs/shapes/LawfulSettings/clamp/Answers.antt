@@ -1,14 +1,14 @@
 -- `pyramid::shapes::LawfulSettings::clamp` meets its contract: to 0 and 255 first, and then to black and white. Assumes nothing.
-use Rattle.std.proofs.Common.{◌∙◌, rules, arith}
+use Rattle.std.proofs.Common.{◌∙◌, rules}
 use Rattle.pyramid.proofs.Copies.{clamped_stored}
-use Rattle.pyramid.proofs.Refusals.{accepted_settings}
+use Rattle.pyramid.proofs.Refusals.{accepted_settings, greys_fit}
 use Rattle.pyramid.proofs.shapes.LawfulSettings.clamp.Goals as goal
 
 pub overflow_cast-black : goal.overflow_cast-black
-overflow_cast-black c = let greys = (accepted_settings _ c.self.invariant).shaped.greys in record { fits = omega (arith, greys.below, greys.most) }
+overflow_cast-black c = (greys_fit _ c.self.invariant).0
 
 pub overflow_cast-white : goal.overflow_cast-white
-overflow_cast-white c = record { fits = omega (arith, (accepted_settings _ c.self.invariant).shaped.greys.most) }
+overflow_cast-white c = (greys_fit _ c.self.invariant).1
 
 pub returns : goal.returns
 returns c =
